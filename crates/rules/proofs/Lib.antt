@@ -1,0 +1,4 @@
+pub mod Lookup
+pub mod Fits
+pub mod Laying
+pub mod Copied

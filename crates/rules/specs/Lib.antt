@@ -1,0 +1,7 @@
+pub mod Limits
+pub mod Program
+pub mod Props
+pub mod Asked
+pub mod Laid
+pub mod Growing
+pub mod Tables
