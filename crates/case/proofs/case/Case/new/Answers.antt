@@ -1,0 +1,4 @@
+use Rattle.case.proofs.case.Case.new.Needs as need
+
+pub ghost-result : need.ghost-result
+ghost-result g c = (∣ tt ∣₁, tt)

@@ -1,0 +1,4 @@
+pub mod Among
+pub mod Steps
+pub mod Exact
+pub mod Refused
