@@ -1,0 +1,44 @@
+-- What the program tells of a book and a plan. Assumes nothing.
+use mathlib.Core.Path.{_≡_}
+use mathlib.Core.List.{List, map}
+use mathlib.Core.Bool.{Bool, true, false}
+use Prim.Native.Nat.{ℕ}
+use Rattle.std.specs.declared.result.Result.{Result}
+use Rattle.std.specs.declared.result.Result.the-variants.{Ok, Err}
+use Rattle.base.specs.Sets.{has}
+use Rattle.base.specs.Words.{payload}
+use Rattle.base.specs.declared.atoms.AtomSet.{AtomSet}
+use Rattle.base.specs.declared.refusal.Refusal.{Refusal}
+use Rattle.rules.specs.Program.{Program}
+use Rattle.lists.specs.Lists.{among}
+use Rattle.models.specs.Derives.{Atoms}
+use Rattle.case.specs.Calls.{Offered}
+use Rattle.texts.specs.Texts.{plan-report, refusal-line}
+
+-- the plan is reported
+pub record Reported (n : ℕ) (plan : Atoms) (passed : Bool) (text : List ℕ) : Type 0 where
+  pub passes : passed ≡ true
+  pub set : AtomSet
+  pub holds : has set ≡ plan
+  pub told : text ≡ plan-report n set
+
+-- the refusal's line is told
+pub record Refusing (f : Refusal) (passed : Bool) (text : List ℕ) : Type 0 where
+  pub fails : passed ≡ false
+  pub told : text ≡ refusal-line f
+
+-- what is told of the answer to an offer
+abbrev pub ToldAnswer : ℕ → List ℕ → Result (Unit {0}) Refusal → Bool → List ℕ → Type 0
+ToldAnswer n ws (Ok done) passed text = Reported n (among (map payload ws)) passed text
+ToldAnswer n ws (Err f) passed text = Refusing f passed text
+
+-- what is told of the words of a plan over the rules P
+pub record ToldPlan (P : Program) (ws : List ℕ) (passed : Bool) (text : List ℕ) : Type 0 where
+  pub answer : Result (Unit {0}) Refusal
+  pub offered : Offered P ws answer
+  pub told : ToldAnswer (P .atoms) ws answer passed text
+
+-- what is told of a book, by what its words read as, and of the words of a plan
+abbrev pub Told : Result Program Refusal → List ℕ → Bool → List ℕ → Type 0
+Told (Ok P) ws passed text = ToldPlan P ws passed text
+Told (Err f) ws passed text = Refusing f passed text
