@@ -3,16 +3,23 @@ use mathlib.Core.Path.{_≡_}
 use mathlib.Core.List.{List, map}
 use mathlib.Core.Bool.{Bool, true, false}
 use Prim.Native.Nat.{ℕ}
+use lib.Dec.{leb}
+use Rattle.std.specs.declared.option.Option.the-variants.{Some}
 use Rattle.std.specs.declared.result.Result.{Result}
 use Rattle.std.specs.declared.result.Result.the-variants.{Ok, Err}
 use Rattle.base.specs.Sets.{has}
-use Rattle.base.specs.Words.{payload}
+use Rattle.base.specs.Words.{kind, payload}
 use Rattle.base.specs.declared.atoms.AtomSet.{AtomSet}
+use Rattle.base.specs.declared.misfit.Misfit.the-variants.{NoForm, PastLimit}
 use Rattle.base.specs.declared.refusal.Refusal.{Refusal}
 use Rattle.rules.specs.Program.{Program}
-use Rattle.lists.specs.Lists.{among}
+use Rattle.rules.specs.Growing.{unless}
+use Rattle.books.specs.Limits.{max-words}
+use Rattle.books.specs.Books.{opening-misfit, word-misfit}
+use Rattle.lists.specs.Lists.{member-misfit, among}
 use Rattle.models.specs.Derives.{Atoms}
 use Rattle.case.specs.Calls.{Offered}
+use Rattle.texts.specs.Files.{broken-word}
 use Rattle.texts.specs.Texts.{plan-report, refusal-line}
 
 -- the plan is reported
@@ -42,3 +49,10 @@ pub record ToldPlan (P : Program) (ws : List ℕ) (passed : Bool) (text : List �
 abbrev pub Told : Result Program Refusal → List ℕ → Bool → List ℕ → Type 0
 Told (Ok P) ws passed text = ToldPlan P ws passed text
 Told (Err f) ws passed text = Refusing f passed text
+
+-- the word that stands for bytes left at the end of a file fits no form: not as an opening word, not behind
+-- the words of a book unless it is past their limit, and not in a plan
+pub record Broken-word-fits-no-form : Type 0 where
+  pub opening : opening-misfit (kind broken-word) (payload broken-word) ≡ Some NoForm
+  pub later : (P : Program) (place : ℕ) → word-misfit P place broken-word ≡ unless (leb max-words place) PastLimit (Some NoForm)
+  pub listed : (n last : ℕ) → member-misfit n last (kind broken-word) (payload broken-word) ≡ Some NoForm

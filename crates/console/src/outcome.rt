@@ -10,7 +10,7 @@ ghost use Rattle.books.specs.Books.{read-book};
 ghost use Rattle.models.specs.Derives.{Atoms};
 ghost use Rattle.case.specs.Cases.{rules-of, plan-of};
 ghost use Rattle.texts.specs.Files.{words-of};
-ghost use Rattle.console.specs.Outcomes.{Told, ToldPlan, Reported, Refusing};
+ghost use Rattle.console.specs.Outcomes.{Told, ToldPlan, Reported, Refusing, Broken-word-fits-no-form};
 use base::LoadError;
 use base::Refusal;
 use books::Book;
@@ -32,7 +32,8 @@ pub struct Outcome {
 
 // Loads the words of a book and offers those of a plan: the report on the plan, or the first refusal.
 pub fn judge_files(heap: Global, book: &[u8], plan: &[u8]) -> Result<Outcome, AllocError>
-    ensures { λ r. ⌜ made r (λ o. Told (read-book (words-of (now (book .entry)))) (words-of (now (plan .entry))) (o .passed) (string-bytes (o .text))) ⌝ }
+    ensures answer { λ r. ⌜ made r (λ o. Told (read-book (words-of (now (book .entry)))) (words-of (now (plan .entry))) (o .passed) (string-bytes (o .text))) ⌝ }
+    ensures law { λ _. ⌜ Broken-word-fits-no-form ⌝ }
 {
     let words = words_of(heap, book)?;
     let mut rules = Book::new(heap);

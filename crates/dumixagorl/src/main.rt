@@ -55,16 +55,21 @@ fn judge(rt: &LibcRuntime) -> Result<bool, AnyError> {
 }
 
 // The first bytes of a file; a missing file is empty.
-fn read_file(rt: &LibcRuntime, path: &str) -> io::Result<Vec<u8>> {
-    match File::open(rt, path) {
-        Ok(mut file) => read_some(rt, &mut file),
+fn read_file(rt: &LibcRuntime, path: &str) -> Result<Vec<u8>, AnyError> {
+    match open_and_read(rt, path) {
+        Ok(bytes) => Ok(bytes),
         Err(e) => {
             if e.kind() == ErrorKind::NotFound {
                 return Ok(Vec::new(rt.alloc()));
             }
-            Err(e)
+            Err(format!(rt.alloc(), "{path}: {e}")?.into())
         }
     }
+}
+
+fn open_and_read(rt: &LibcRuntime, path: &str) -> io::Result<Vec<u8>> {
+    let mut file = File::open(rt, path)?;
+    read_some(rt, &mut file)
 }
 
 fn read_some(rt: &LibcRuntime, file: &mut File) -> io::Result<Vec<u8>> {
