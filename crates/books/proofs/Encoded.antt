@@ -5,6 +5,8 @@ use mathlib.Core.Bool.{Bool, true, false}
 use Prim.Native.Nat.{ℕ, zero, suc, _+_, _-_, _^_, _≤_, _<_}
 use native.Mathlib.Omega.{arith}
 use lib.ListN.{length, getD, take, drop}
+use Rattle.books.specs.Limits.{max-words}
+use Rattle.base.specs.Limits.{max-atoms}
 use Rattle.std.specs.shelf.Lists.{joined}
 use Rattle.std.specs.declared.option.Option.the-variants.{None}
 use Rattle.std.specs.declared.result.Result.the-variants.{Ok}
@@ -126,7 +128,7 @@ opening-book w small e =
       encoded = ap (λ v. v ∷ []) (sym (word-of w small) ∙ ap (λ k. word k (payload w)) (o .0));
     }
   where
-    opens : (k : Kind) (n : ℕ) → opening-misfit k n ≡ None → (k ≡ Opening) × (n ≤ 1024)
+    opens : (k : Kind) (n : ℕ) → opening-misfit k n ≡ None → (k ≡ Opening) × (n ≤ max-atoms)
     opens Head n e = misfit-clash e
     opens Positive n e = misfit-clash e
     opens Negative n e = misfit-clash e
@@ -164,7 +166,7 @@ literal-kind P l = by-sign (l .positive) (l .atom)
     by-sign false a = (refl, refl)
 
 -- a word that may stand at a place, and then the others
-takes : (P Q : Program) (k : Kind) (a place : ℕ) (ws : List ℕ) → a ≤ 1024 → place < 8192 → kind-misfit P k a ≡ None → with-kind P k a ≡ Q → read-on P place (word k a ∷ ws) ≡ read-on Q (place + 1) ws
+takes : (P Q : Program) (k : Kind) (a place : ℕ) (ws : List ℕ) → a ≤ max-atoms → place < max-words → kind-misfit P k a ≡ None → with-kind P k a ≡ Q → read-on P place (word k a ∷ ws) ≡ read-on Q (place + 1) ws
 takes P Q k a place ws low h fits grown =
     let small : a < 2 ^ 29 = omega arith in
     read-on-next P place (word k a) ws
@@ -176,7 +178,7 @@ module _ (P : Program) (w : Within P) where
     r = rule-at P (i + 1)
 
     -- the last n literals of the rule behind the first i
-    takes-literals : (n k place : ℕ) → k + n ≡ body-size r → place + n ≤ 8192 → read-on (partly P i k) place (map literal-word (drop k (body r)) ++ rest) ≡ read-on (partly P i (body-size r)) (place + n) rest
+    takes-literals : (n k place : ℕ) → k + n ≡ body-size r → place + n ≤ max-words → read-on (partly P i k) place (map literal-word (drop k (body r)) ++ rest) ≡ read-on (partly P i (body-size r)) (place + n) rest
     takes-literals zero k place at h =
         ap₂ (λ j ls. read-on (partly P i j) place (map literal-word ls ++ rest)) (omega arith) (drop-all k (body r) (omega (arith, body-length r)))
         ∙ ap (λ p. read-on (partly P i (body-size r)) p rest) (omega arith)
@@ -187,13 +189,13 @@ module _ (P : Program) (w : Within P) where
         let allowed = literal-allowed P i inside w k l refl below in
         let fits = literal-kind (partly P i k) l .0 ∙ allowed in
         let grown = literal-kind (partly P i k) l .1 ∙ partly-more P i inside w k l refl below in
-        let low : l .atom ≤ 1024 = omega (arith, literal-fits (partly P i k) l allowed .high, w .few-atoms) in
+        let low : l .atom ≤ max-atoms = omega (arith, literal-fits (partly P i k) l allowed .high, w .few-atoms) in
         ap (λ ls. read-on (partly P i k) place (map literal-word ls ++ rest)) next
         ∙ takes (partly P i k) (partly P i (k + 1)) (sign (l .positive)) (l .atom) place (map literal-word (drop (k + 1) (body r)) ++ rest) low (omega arith) fits grown
         ∙ takes-literals n (k + 1) (place + 1) (omega arith) (omega arith)
         ∙ ap (λ p. read-on (partly P i (body-size r)) p rest) (omega arith)
 
-    takes-rule : (place : ℕ) → place + (1 + body-size r) ≤ 8192 → read-on (first-rules P i) place (rule-words r ++ rest) ≡ read-on (first-rules P (i + 1)) (place + (1 + body-size r)) rest
+    takes-rule : (place : ℕ) → place + (1 + body-size r) ≤ max-words → read-on (first-rules P i) place (rule-words r ++ rest) ≡ read-on (first-rules P (i + 1)) (place + (1 + body-size r)) rest
     takes-rule place h =
         let over = this-over P i inside w in
         ap (λ ws. read-on (first-rules P i) place (ws ++ rest)) (body-words r)
@@ -202,7 +204,7 @@ module _ (P : Program) (w : Within P) where
         ∙ ap₂ (λ (Q : Program) p. read-on Q p rest) (partly-all P i inside) (omega arith)
 
   -- the last n rules
-  takes-rules : (n i place : ℕ) → i + n ≡ length (P .rules) → place + length (joined rule-words (drop i (P .rules))) ≤ 8192 → read-on (first-rules P i) place (joined rule-words (drop i (P .rules))) ≡ Ok P
+  takes-rules : (n i place : ℕ) → i + n ≡ length (P .rules) → place + length (joined rule-words (drop i (P .rules))) ≤ max-words → read-on (first-rules P i) place (joined rule-words (drop i (P .rules))) ≡ Ok P
   takes-rules zero i place at h =
       ap₂ (λ rs qs. read-on (record { atoms = P .atoms; rules = rs }) place (joined rule-words qs)) (take-all i (P .rules) (omega arith)) (drop-all i (P .rules) (omega arith))
       ∙ read-on-end P place
@@ -216,7 +218,7 @@ module _ (P : Program) (w : Within P) where
       ∙ takes-rule i inside rest place (omega arith)
       ∙ takes-rules n (i + 1) (place + (1 + body-size r)) (omega arith) (omega arith)
 
-  takes-book : length (book-words P) ≤ 8192 → read-book (book-words P) ≡ Ok P
+  takes-book : length (book-words P) ≤ max-words → read-book (book-words P) ≡ Ok P
   takes-book h =
       let small : P .atoms < 2 ^ 29 = omega (arith, w .few-atoms) in
       ap₂ (λ k n. or-refuse (opening-misfit k n) 0 (read-on (bare n) 1 (joined rule-words (P .rules)))) (kind-word Opening (P .atoms) small) (payload-word Opening (P .atoms) small)
@@ -227,7 +229,7 @@ module _ (P : Program) (w : Within P) where
       opens = let few = w .few-atoms in grind (arith, tells)
 
 pub encoded-taken : (ws : List ℕ) (P : Program) → IsBook P ws → read-book ws ≡ Ok P
-encoded-taken ws P b = ap read-book (b .encoded) ∙ takes-book P (b .within) (subst (λ vs. length vs ≤ 8192) (b .encoded) (b .short))
+encoded-taken ws P b = ap read-book (b .encoded) ∙ takes-book P (b .within) (subst (λ vs. length vs ≤ max-words) (b .encoded) (b .short))
 
 pub taken-exactly-if-encoded : Taken-exactly-if-encoded
 taken-exactly-if-encoded ws small P = (taken-encoded ws small P, encoded-taken ws P)

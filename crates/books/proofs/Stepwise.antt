@@ -7,6 +7,7 @@ use Prim.Native.Nat.{ℕ, _+_, _^_, _<_}
 use native.Mathlib.Omega.{arith}
 use lib.Dec.{leb}
 use lib.ListN.{length, getD, drop}
+use Rattle.books.specs.Limits.{max-words}
 use Rattle.std.specs.declared.option.Option.{Option}
 use Rattle.std.specs.declared.option.Option.the-variants.{Some, None}
 use Rattle.std.specs.declared.result.Result.{Result}
@@ -80,13 +81,13 @@ opening-then (w ∷ ws) P e =
     ap₂ (λ x (Q : Program). or-refuse x 0 (read-on Q 1 ws)) (t .fits) same
 
 pub kind-fits : (P : Program) (place w : ℕ) → word-misfit P place w ≡ None → kind-misfit P (kind w) (payload w) ≡ None
-kind-fits P place w e = by-test (leb 8192 place) (kind-misfit P (kind w) (payload w)) e
+kind-fits P place w e = by-test (leb max-words place) (kind-misfit P (kind w) (payload w)) e
   where
     by-test : (b : Bool) (m : Option Misfit) → unless b PastLimit m ≡ None → m ≡ None
     by-test true m e = misfit-clash e
     by-test false m e = e
 
-pub before-limit : (P : Program) (place w : ℕ) → word-misfit P place w ≡ None → place < 8192
+pub before-limit : (P : Program) (place w : ℕ) → word-misfit P place w ≡ None → place < max-words
 before-limit P place w e = grind (arith, tells)
 
 -- a word of a known kind in a book that is not full
@@ -94,8 +95,8 @@ module _ (P : Program) (k : Kind) (a : ℕ) (small : a < 2 ^ 29) where
   pub adds : with-word P (word k a) ≡ with-kind P k a
   adds = ap₂ (with-kind P) (kind-word k a small) (payload-word k a small)
 
-  pub free : (place : ℕ) → place < 8192 → kind-misfit P k a ≡ None → word-misfit P place (word k a) ≡ None
-  free place h e = ap₂ (λ b m. unless b PastLimit m) (lt-leb 8192 place h) (ap₂ (kind-misfit P) (kind-word k a small) (payload-word k a small) ∙ e)
+  pub free : (place : ℕ) → place < max-words → kind-misfit P k a ≡ None → word-misfit P place (word k a) ≡ None
+  free place h e = ap₂ (λ b m. unless b PastLimit m) (lt-leb max-words place h) (ap₂ (kind-misfit P) (kind-word k a small) (payload-word k a small) ∙ e)
 
 -- reading goes on behind what was read
 pub read-on-append : (P : Program) (place : ℕ) (us vs : List ℕ) (Q : Program) → read-on P place us ≡ Ok Q → read-on P place (us ++ vs) ≡ read-on Q (place + length us) vs

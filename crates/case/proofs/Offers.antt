@@ -6,6 +6,7 @@ use mathlib.Core.Bool.{Bool}
 use Prim.Native.Nat.{ℕ, _+_, _^_, min, _≤_, _<_}
 use native.Mathlib.Omega.{arith}
 use lib.ListN.{length, getD}
+use Rattle.base.specs.Limits.{max-atoms}
 use Rattle.std.specs.shelf.Lists.{All}
 use Rattle.std.specs.declared.option.Option.{Option}
 use Rattle.std.specs.declared.option.Option.the-variants.{Some, None}
@@ -26,7 +27,7 @@ use Rattle.case.specs.Calls.{Verdict, Offered, IsPlan, after-offer}
 pub words-fit : (ws : List ℕ) → ((i : ℕ) → getD ws i 0 < 2 ^ 32) → Words ws
 words-fit ws fits = all-from-getD (λ w. w < 2 ^ 32) ws 0 (λ i h. fits i)
 
-pub atoms-fit : (P : Program) → Within P → (n : ℕ) → n ≡ P .atoms → min n 1024 ≡ P .atoms
+pub atoms-fit : (P : Program) → Within P → (n : ℕ) → n ≡ P .atoms → min n max-atoms ≡ P .atoms
 atoms-fit P w n e = omega (arith, e, w .few-atoms)
 
 ok-same : {A : Type 0} (x y : A) → _≡_ {A = Result A Refusal} (Ok x) (Ok y) → x ≡ y
@@ -35,7 +36,7 @@ ok-same x y e = cc
 never : {A : Type 0} (x : A) (f : Refusal) → _≡_ {A = Result A Refusal} (Err f) (Ok x) → ⊥
 never x f e = let z : _≡_ {A = ℕ} 0 1 = cc in omega arith
 
-payloads : (low n : ℕ) (atoms : List ℕ) → n ≤ 1024 → Rising low n atoms → map payload (map (word Member) atoms) ≡ atoms
+payloads : (low n : ℕ) (atoms : List ℕ) → n ≤ max-atoms → Rising low n atoms → map payload (map (word Member) atoms) ≡ atoms
 payloads low n [] h r = refl
 payloads low n (a ∷ rest) h r =
     let small : a < 2 ^ 29 = omega (arith, r .1, h) in

@@ -3,6 +3,7 @@ use mathlib.Core.Path.{_≡_, refl, sym, ap, ap₂, subst, _∙_}
 use mathlib.Core.List.{List, [], _∷_, map}
 use Prim.Native.Nat.{ℕ, suc, _≤_, _<_, _^_}
 use native.Mathlib.Omega.{arith}
+use Rattle.base.specs.Limits.{max-atoms}
 use Rattle.std.specs.declared.option.Option.{Option}
 use Rattle.std.specs.declared.option.Option.the-variants.{Some, None}
 use Rattle.std.specs.declared.result.Result.{Result}
@@ -47,7 +48,7 @@ taken-rises n last place (w ∷ ws) small atoms e =
     subst (λ xs. IsListFrom n last xs (w ∷ ws)) (sym (g .together))
     (record { rising = (f .rises, f .high, rest .rising); encoded = ap₂ (λ x xs. x ∷ xs) this (rest .encoded) })
 
-rising-taken : (n : ℕ) → n ≤ 1024 → (last place : ℕ) (atoms : List ℕ) → Rising last n atoms → read-from n last place (map (word Member) atoms) ≡ Ok atoms
+rising-taken : (n : ℕ) → n ≤ max-atoms → (last place : ℕ) (atoms : List ℕ) → Rising last n atoms → read-from n last place (map (word Member) atoms) ≡ Ok atoms
 rising-taken n few last place [] r = read-none n last place
 rising-taken n few last place (a ∷ atoms) r =
     let short : a < 2 ^ 29 = omega (arith, r .1) in
@@ -57,7 +58,7 @@ rising-taken n few last place (a ∷ atoms) r =
     ∙ ap₂ (λ k b. or-refuse (member-misfit n last k b) place b (read-from n b (suc place) (map (word Member) atoms))) (kind-word Member a short) (payload-word Member a short)
     ∙ ap₂ (λ m t. or-refuse m place a t) fits rest
 
-pub list-taken : (n : ℕ) → n ≤ 1024 → (ws atoms : List ℕ) → IsList n atoms ws → read-list n ws ≡ Ok atoms
+pub list-taken : (n : ℕ) → n ≤ max-atoms → (ws atoms : List ℕ) → IsList n atoms ws → read-list n ws ≡ Ok atoms
 list-taken n few ws atoms l = ap (read-list n) (l .encoded) ∙ rising-taken n few 0 0 atoms (l .rising)
 
 pub taken-exactly : Taken-exactly-if-rising

@@ -6,6 +6,7 @@ use Prim.Native.Nat.{ℕ, suc, _+_, _≤_, _<_}
 use native.Mathlib.Omega.{arith}
 use lib.Dec.{eqb}
 use lib.ListN.{length, getD, take, drop}
+use Rattle.base.specs.Limits.{max-atoms}
 use Rattle.std.specs.declared.option.Option.{Option}
 use Rattle.std.specs.declared.option.Option.the-variants.{Some, None}
 use Rattle.std.specs.declared.result.Result.{Result}
@@ -102,7 +103,7 @@ module _ (n : ℕ) (ws : List ℕ) (set : AtomSet) (last place : ℕ) (s : ReadS
     pub so-far-refused : (m : Misfit) → Some m ≡ member-misfit n last (kind here) (payload here) → read-list n ws ≡ Err (refused-at m place)
     so-far-refused m e = next (Some m) e
 
-    module _ (few : n ≤ 1024) (fits : None ≡ member-misfit n last (kind here) (payload here)) (after : AtomSet) where
+    module _ (few : n ≤ max-atoms) (fits : None ≡ member-misfit n last (kind here) (payload here)) (after : AtomSet) where
       more : Added set after (payload here) → ReadSoFar n ws after (payload here) (place + 1)
       more added =
           let f = fitting n last (kind here) (payload here) (sym fits) in

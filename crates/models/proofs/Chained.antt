@@ -9,7 +9,7 @@ use Rattle.std.proofs.shelf.Lists.{length-set, length-replicate, getD-set-same,
 use Rattle.std.proofs.shelf.Tests.{cases-eq}
 use Rattle.rules.specs.Program.{_∈_, Rule, Program, body-size, weight, Within}
 use Rattle.rules.specs.Asked.{rule-at}
-use Rattle.models.specs.Chains.{Leads, Listed, Sane, Indexed}
+use Rattle.models.specs.Chains.{atom-places, positions, Leads, Listed, Sane, Indexed}
 use Rattle.models.specs.Chains.Leads.{here, on}
 use Rattle.models.specs.declared.occurrences.Occurrences.{Occurrences}
 
@@ -88,14 +88,14 @@ zeros (suc n) zero = refl
 zeros (suc n) (suc a) = zeros n a
 
 -- no position is used yet
-pub bare-sane : (rules : ℕ) (o : Occurrences) → o .first ≡ replicate 1025 0 → o .next ≡ replicate 8193 0 → o .rule ≡ replicate 8193 0 → o .used ≡ 0 → Sane rules o
+pub bare-sane : (rules : ℕ) (o : Occurrences) → o .first ≡ replicate atom-places 0 → o .next ≡ replicate positions 0 → o .rule ≡ replicate positions 0 → o .used ≡ 0 → Sane rules o
 bare-sane rules o f n r u =
     record {
-      firsts = ap length f ∙ length-replicate {A = ℕ} 1025 0;
-      nexts = ap length n ∙ length-replicate {A = ℕ} 8193 0;
-      rows = ap length r ∙ length-replicate {A = ℕ} 8193 0;
+      firsts = ap length f ∙ length-replicate {A = ℕ} atom-places 0;
+      nexts = ap length n ∙ length-replicate {A = ℕ} positions 0;
+      rows = ap length r ∙ length-replicate {A = ℕ} positions 0;
       few = omega arith;
-      starts = λ a. omega (arith, ap (λ xs. getD xs a 0) f, zeros 1025 a);
+      starts = λ a. omega (arith, ap (λ xs. getD xs a 0) f, zeros atom-places a);
       falls = λ k p h. absurd (omega arith);
       valid = λ k p h. absurd (omega arith);
     }

@@ -3,9 +3,18 @@ use mathlib.Core.Path.{_≡_}
 use mathlib.Core.List.{List}
 use Prim.Native.Nat.{ℕ, _+_, _≤_, _<_}
 use lib.ListN.{length, getD, take}
+use Rattle.rules.specs.Limits.{max-size}
+use Rattle.base.specs.Limits.{max-atoms}
 use Rattle.rules.specs.Program.{_∈_, Program, weight}
 use Rattle.rules.specs.Asked.{rule-at}
 use Rattle.models.specs.declared.occurrences.Occurrences.{Occurrences}
+
+-- a place for each atom and for each body atom of the largest source, and one that stands for none
+abbrev pub atom-places : ℕ
+atom-places = max-atoms + 1
+
+abbrev pub positions : ℕ
+positions = max-size + 1
 
 -- the chain from position k, through `next`, comes to a position of rule j
 pub data Leads (next rule : List ℕ) (j : ℕ) : ℕ → Type 0 where
@@ -18,10 +27,10 @@ Listed o j a = Leads (o .next) (o .rule) j (getD (o .first) a 0)
 
 -- positions count from 1 to `used`, every chain falls to 0, and each position has one of `rules` rules
 pub record Sane (rules : ℕ) (o : Occurrences) : Type 0 where
-  pub firsts : length (o .first) ≡ 1025
-  pub nexts : length (o .next) ≡ 8193
-  pub rows : length (o .rule) ≡ 8193
-  pub few : o .used ≤ 8192
+  pub firsts : length (o .first) ≡ atom-places
+  pub nexts : length (o .next) ≡ positions
+  pub rows : length (o .rule) ≡ positions
+  pub few : o .used ≤ max-size
   pub starts : (a : ℕ) → getD (o .first) a 0 ≤ o .used
   pub falls : (k : ℕ) → 0 < k → k ≤ o .used → getD (o .next) k 0 < k
   pub valid : (k : ℕ) → 0 < k → k ≤ o .used → getD (o .rule) k 0 < rules

@@ -5,6 +5,7 @@ use mathlib.Core.List.{List, [], _∷_}
 use mathlib.Core.Bool.{Bool, true, not, _&&_}
 use Prim.Native.Nat.{ℕ, _+_, _≤_, _<_}
 use lib.ListN.{length, getD}
+use Rattle.base.specs.Limits.{max-atoms}
 use Rattle.base.specs.Sets.{has, size}
 use Rattle.base.specs.Stacks.{items, room}
 use Rattle.base.specs.declared.atoms.AtomSet.{AtomSet}
@@ -40,7 +41,7 @@ pub record State (P : Program) (X : Atoms) (found : AtomSet) (waiting : Stack �
   pub derived : (a : ℕ) → In (has found) a → Derives P (In X) a
   pub waits : (a : ℕ) → a ∈ items waiting → In (has found) a
   pub fewer : length (items waiting) ≤ size found
-  pub spacious : room waiting ≡ 1024
+  pub spacious : room waiting ≡ max-atoms
 
 -- a rule was considered: what was found stays, what has been followed now had been before, and the rule's head is found if it fires
 pub record Step (X Y : Atoms) (waiting : List ℕ) (Y′ : Atoms) (waiting′ : List ℕ) (r : Rule) : Type 0 where

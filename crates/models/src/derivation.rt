@@ -14,8 +14,12 @@ ghost use Rattle.models.specs.Following.{State, Step, Done, Following};
 use crate::firing::fires;
 use crate::occurrences::Occurrences;
 use base::AtomSet;
+use base::MAX_ATOMS;
 use base::Stack;
 use rules::RuleSource;
+
+// An atom waits at most once.
+const WAITING_PLACES: usize = MAX_ATOMS as usize;
 
 // The least set that is closed under the reduct of the source's rules by a set.
 pub fn derive<S: RuleSource>(source: &S, blocked: &AtomSet) -> AtomSet
@@ -23,7 +27,7 @@ pub fn derive<S: RuleSource>(source: &S, blocked: &AtomSet) -> AtomSet
     ensures law { λ _. ⌜ Derives-is-least-closed-under-the-reduct ⌝ }
 {
     let occurrences = Occurrences::of(source);
-    let mut slots = [0u32; 1024];
+    let mut slots = [0u32; WAITING_PLACES];
     let mut waiting = Stack::over(&mut slots);
     let mut found = AtomSet::new();
     start(source, blocked, &mut found, &mut waiting);

@@ -2,14 +2,18 @@
 ghost use mathlib.Core.Path.{_≡_};
 ghost use Prim.Native.Nat.{ℕ, _+_, _≤_, _<_};
 ghost use lib.ListN.{length, take};
+ghost use Rattle.base.specs.Limits.{max-atoms};
+ghost use Rattle.rules.specs.Limits.{max-rules, max-size};
 ghost use Rattle.rules.specs.Program.{weight};
 ghost use Rattle.models.specs.Chains.{Listed, Sane, Indexed};
+use base::MAX_ATOMS;
+use rules::MAX_SIZE;
 use rules::RuleSource;
 
-// A place for each atom, and for each body atom of the largest source; places 0 are no atom and no position.
-const ATOM_PLACES: usize = 1025;
+// A place for each atom and for each body atom of the largest source, and one that stands for none.
+const ATOM_PLACES: usize = MAX_ATOMS as usize + 1;
 
-const POSITIONS: usize = 8193;
+const POSITIONS: usize = MAX_SIZE + 1;
 
 // Positions of one atom form a chain: the last is `first`, the one before a position is its `next`, and 0 ends it.
 #[derive(Clone, Copy)]
@@ -59,7 +63,7 @@ impl Occurrences {
 
     // Puts a position of a rule in front of an atom's chain.
     fn add(&mut self, atom: u32, rule: usize)
-        requires { ⌜ atom < 1025 ⌝ ∗ ⌜ now self .used < 8192 ⌝ ∗ ⌜ rule < 4096 ⌝ }
+        requires { ⌜ atom ≤ max-atoms ⌝ ∗ ⌜ now self .used < max-size ⌝ ∗ ⌜ rule < max-rules ⌝ }
         ensures sane { λ _. ⌜ ((rules : ℕ) → rule < rules → Sane rules (now (self .entry)) → Sane rules (now (self .exit))) ⌝ }
         ensures here { λ _. ⌜ Listed (now (self .exit)) rule atom ⌝ }
         ensures kept { λ _. ⌜ ((rules : ℕ) → Sane rules (now (self .entry)) → (j a : ℕ) → Listed (now (self .entry)) j a → Listed (now (self .exit)) j a) ⌝ }

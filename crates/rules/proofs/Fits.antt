@@ -6,6 +6,7 @@ use mathlib.Core.Logic.{_⊎_, inl, inr, ⊎-elim}
 use Prim.Native.Nat.{ℕ, zero, suc, _+_, _-_, _≤_, _<_}
 use native.Mathlib.Omega.{arith}
 use lib.ListN.{length, getD, set}
+use Rattle.rules.specs.Limits.{max-rules, max-body, max-size}
 use Rattle.std.specs.declared.option.Option.the-variants.{Some, None}
 use Rattle.std.specs.shelf.Lists.{All}
 use Rattle.std.proofs.shelf.Elements.{all-set, all-getD, all-push}
@@ -24,10 +25,10 @@ abbrev Outside : ℕ → ℕ → Type 0
 Outside n a = (a ≡ 0) ⊎ (n < a)
 
 module _ (P : Program) (h : ℕ) where
-  pub rule-past : (4096 ≤ length (P .rules)) ⊎ (8192 ≤ weight (P .rules)) → Some PastLimit ≡ rule-misfit P h
+  pub rule-past : (max-rules ≤ length (P .rules)) ⊎ (max-size ≤ weight (P .rules)) → Some PastLimit ≡ rule-misfit P h
   rule-past e = grind (arith, tells)
 
-  module _ (few : length (P .rules) < 4096) (light : weight (P .rules) < 8192) where
+  module _ (few : length (P .rules) < max-rules) (light : weight (P .rules) < max-size) where
     pub rule-outside : Outside (P .atoms) h → Some OutOfRange ≡ rule-misfit P h
     rule-outside e = grind (arith, tells)
 
@@ -35,8 +36,8 @@ module _ (P : Program) (h : ℕ) where
     rule-free low high = grind (arith, tells)
 
 pub record RuleFits (P : Program) (h : ℕ) : Type 0 where
-  pub few : length (P .rules) < 4096
-  pub light : weight (P .rules) < 8192
+  pub few : length (P .rules) < max-rules
+  pub light : weight (P .rules) < max-size
   pub low : 1 ≤ h
   pub high : h ≤ P .atoms
 
@@ -44,10 +45,10 @@ pub rule-fits : (P : Program) (h : ℕ) → rule-misfit P h ≡ None → RuleFit
 rule-fits P h e = record { few = grind (arith, tells); light = grind (arith, tells); low = grind (arith, tells); high = grind (arith, tells) }
 
 module _ (P : Program) (l : Literal) where
-  pub literal-past : (64 ≤ body-size (last-rule P)) ⊎ (8192 ≤ weight (P .rules)) → Some PastLimit ≡ literal-misfit P l
+  pub literal-past : (max-body ≤ body-size (last-rule P)) ⊎ (max-size ≤ weight (P .rules)) → Some PastLimit ≡ literal-misfit P l
   literal-past e = grind (arith, tells)
 
-  module _ (short : body-size (last-rule P) < 64) (light : weight (P .rules) < 8192) where
+  module _ (short : body-size (last-rule P) < max-body) (light : weight (P .rules) < max-size) where
     pub literal-misplaced : (length (P .rules) ≡ 0) ⊎ ((l .positive ≡ true) × (1 ≤ length (last-rule P .neg))) → Some NoForm ≡ literal-misfit P l
     literal-misplaced e = grind (arith, tells)
 
@@ -64,8 +65,8 @@ module _ (P : Program) (l : Literal) where
 
 pub record LiteralFits (P : Program) (l : Literal) : Type 0 where
   pub started : 0 < length (P .rules)
-  pub short : body-size (last-rule P) < 64
-  pub light : weight (P .rules) < 8192
+  pub short : body-size (last-rule P) < max-body
+  pub light : weight (P .rules) < max-size
   pub placed : l .positive ≡ true → length (last-rule P .neg) ≡ 0
   pub low : 1 ≤ l .atom
   pub high : l .atom ≤ P .atoms

@@ -6,6 +6,7 @@ use mathlib.Core.Logic.{⊎-elim, ∥∥₁-map}
 use Prim.Native.Nat.{ℕ, zero, suc, _+_, _-_, _≤_, _<_}
 use native.Mathlib.Omega.{arith}
 use lib.ListN.{length, getD, set, take, drop}
+use Rattle.base.specs.Limits.{max-atoms}
 use Rattle.std.proofs.shelf.Lists.{drop-take, drop-append-le, take-append-le, take-all, length-push, length-set, length-take-le, map-set, map-push, getD-append-left, getD-push, getD-set-same, getD-set-other, getD-map}
 use Rattle.std.proofs.shelf.Tests.{cases-eq}
 use Rattle.rules.specs.Program.{Rule, Program, body-size, weight, Within}
@@ -46,10 +47,10 @@ module _ (n : ℕ) (es : List Entry) (bs : List ℕ) (none : es ≡ []) (bare : 
   empty-weighed : Weighed n es bs
   empty-weighed = omega (arith, ap (λ (p : Program). weight (p .rules)) empty-program, ap length none, ap length bare)
 
-  empty-within : n ≤ 1024 → Within (laid-program n es bs)
+  empty-within : n ≤ max-atoms → Within (laid-program n es bs)
   empty-within h = subst Within (sym empty-program) (record { few-atoms = h; few-rules = omega arith; light = omega arith; over = tt })
 
-  pub empty-keeps : n ≤ 1024 → Laid n es bs
+  pub empty-keeps : n ≤ max-atoms → Laid n es bs
   empty-keeps h = record { ordered = empty-ordered; last = empty-last; weighed = empty-weighed; kept = ∣ empty-within h ∣₁ }
 
 -- a rule with an empty body, behind the others

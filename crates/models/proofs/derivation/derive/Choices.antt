@@ -1,6 +1,7 @@
 use mathlib.Core.Path.{_≡_}
 use Prim.Native.Nat.{ℕ, _+_, _-_, _<_}
 use lib.ListN.{length}
+use Rattle.base.specs.Limits.{max-atoms}
 use Rattle.base.specs.Sets.{has, size}
 use Rattle.base.specs.Stacks.{items}
 use Rattle.rules.specs.Asked.{rule-at}
@@ -14,4 +15,4 @@ Inv-loop-atom g l =
     × ((j : ℕ) → j < length (P .rules) → Done (has (l .blocked)) (has (l .found)) (items (l .waiting)) (rule-at P (j + 1)))
 
 abbrev pub μ-loop-atom : given.MeasureT-loop-atom
-μ-loop-atom g l = length (items (l .waiting)) + (1024 - size (l .found))
+μ-loop-atom g l = length (items (l .waiting)) + (max-atoms - size (l .found))
