@@ -14,6 +14,7 @@ use Rattle.std.proofs.shelf.Adapters.{Road}
 use Rattle.std.proofs.shelf.Roads.{road-from-shown, road-turn, road-end}
 use Rattle.std.proofs.shelf.Lists.{map-id}
 use Rattle.std.proofs.shelf.Tests.{cases-bool, cases-lt, and-from, and-left, and-right, le-leb, lt-leb}
+use Rattle.base.specs.Limits.{max-atoms}
 use Rattle.base.specs.declared.atoms.AtomSet.{AtomSet}
 use Rattle.base.specs.declared.members.Members.{Members}
 use Rattle.base.specs.Iterating.{left-from, left-of, gives-first}
@@ -22,14 +23,14 @@ use Rattle.base.proofs.Rising.{rising-ext, rising-nothing, rising-least}
 use Rattle.base.proofs.Sets.{has-low, has-high, members-has}
 
 -- from 1 on, all is left
-pub left-all : (p : ℕ → Bool) → left-from p 1 ≡ rising p 1024
+pub left-all : (p : ℕ → Bool) → left-from p 1 ≡ rising p max-atoms
 unfolding left-from
-left-all p = rising-ext (λ a. leb 1 a && p a) p 1024 (λ b low high. ap (λ t. t && p b) (le-leb 1 b low))
+left-all p = rising-ext (λ a. leb 1 a && p a) p max-atoms (λ b low high. ap (λ t. t && p b) (le-leb 1 b low))
 
 -- nothing is left where nothing more passes
 pub left-none : (p : ℕ → Bool) (low : ℕ) → ((a : ℕ) → low ≤ a → p a ≡ false) → left-from p low ≡ []
 unfolding left-from
-left-none p low h = rising-nothing (λ a. leb low a && p a) 1024 (λ b one high. ⊎-elim (under b) (from b) (cases-lt b low))
+left-none p low h = rising-nothing (λ a. leb low a && p a) max-atoms (λ b one high. ⊎-elim (under b) (from b) (cases-lt b low))
   where
     under : (b : ℕ) → b < low → (leb low b && p b) ≡ false
     under b l = and-left (leb low b) (p b) (lt-leb low b l)
@@ -46,7 +47,7 @@ left-least s low a least =
     (λ b l. ⊎-elim (under b) (from b l) (cases-lt b low))
     (λ b l. and-left (leb (a + 1) b) (has s b) (lt-leb (a + 1) b (omega arith)))
     (λ b l. ap (λ t. t && has s b) (le-leb low b (omega arith) ∙ sym (le-leb (a + 1) b (omega arith))))
-    1024 (has-high s a (least .0 .1))
+    max-atoms (has-high s a (least .0 .1))
   where
     under : (b : ℕ) → b < low → (leb low b && has s b) ≡ false
     under b l = and-left (leb low b) (has s b) (lt-leb low b l)

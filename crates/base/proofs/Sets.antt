@@ -7,30 +7,31 @@ use Prim.Native.Nat.{ℕ, _+_, _<_, _≤_}
 use lib.Dec.{eqb, leb}
 use lib.ListN.{length, getD, replicate}
 use Rattle.std.proofs.shelf.Tests.{cases-eq, and-parts, and-from, and-left, and-right, leb-true, le-leb, lt-leb, eq-eqb, ne-eqb}
+use Rattle.base.specs.Limits.{max-atoms}
 use Rattle.base.specs.declared.atoms.AtomSet.{AtomSet}
 use Rattle.base.specs.Sets.{is-atom, marked, has, rising, members, size}
 use Rattle.base.proofs.Bitset.{marked-zeros}
 use Rattle.base.proofs.Rising.{rising-ext, rising-nothing, rising-passes, rising-place, length-rising-one, length-rising-most}
 
 -- a number from 1 to 1,024 is an atom
-pub is-atom-from : (a : ℕ) → 1 ≤ a → a ≤ 1024 → is-atom a ≡ true
-is-atom-from a low high = and-from (leb 1 a) (leb a 1024) (le-leb 1 a low) (le-leb a 1024 high)
+pub is-atom-from : (a : ℕ) → 1 ≤ a → a ≤ max-atoms → is-atom a ≡ true
+is-atom-from a low high = and-from (leb 1 a) (leb a max-atoms) (le-leb 1 a low) (le-leb a max-atoms high)
 
 -- an atom is at least 1
 pub is-atom-low : (a : ℕ) → is-atom a ≡ true → 1 ≤ a
-is-atom-low a h = leb-true 1 a (and-parts (leb 1 a) (leb a 1024) h .0)
+is-atom-low a h = leb-true 1 a (and-parts (leb 1 a) (leb a max-atoms) h .0)
 
 -- an atom is at most 1,024
-pub is-atom-high : (a : ℕ) → is-atom a ≡ true → a ≤ 1024
-is-atom-high a h = leb-true a 1024 (and-parts (leb 1 a) (leb a 1024) h .1)
+pub is-atom-high : (a : ℕ) → is-atom a ≡ true → a ≤ max-atoms
+is-atom-high a h = leb-true a max-atoms (and-parts (leb 1 a) (leb a max-atoms) h .1)
 
 -- 0 is no atom
 pub is-atom-zero : (a : ℕ) → a ≡ 0 → is-atom a ≡ false
 is-atom-zero a e = ap is-atom e
 
 -- a number past 1,024 is no atom
-pub is-atom-past : (a : ℕ) → 1024 < a → is-atom a ≡ false
-is-atom-past a h = and-right (leb 1 a) (leb a 1024) (lt-leb a 1024 h)
+pub is-atom-past : (a : ℕ) → max-atoms < a → is-atom a ≡ false
+is-atom-past a h = and-right (leb 1 a) (leb a max-atoms) (lt-leb a max-atoms h)
 
 -- a member is an atom
 pub has-is-atom : (s : AtomSet) (a : ℕ) → has s a ≡ true → is-atom a ≡ true
@@ -41,7 +42,7 @@ has-is-atom s a h = and-parts (is-atom a) (marked (s .words) a) h .0
 pub has-low : (s : AtomSet) (a : ℕ) → has s a ≡ true → 1 ≤ a
 has-low s a h = is-atom-low a (has-is-atom s a h)
 
-pub has-high : (s : AtomSet) (a : ℕ) → has s a ≡ true → a ≤ 1024
+pub has-high : (s : AtomSet) (a : ℕ) → has s a ≡ true → a ≤ max-atoms
 has-high s a h = is-atom-high a (has-is-atom s a h)
 
 -- a number that is no atom is no member
@@ -55,20 +56,20 @@ unfolding has
 has-marked s a h = ap (λ t. t && marked (s .words) a) h
 
 -- a set has at most 1,024 atoms
-pub size-most : (s : AtomSet) → size s ≤ 1024
-size-most s = length-rising-most (has s) 1024
+pub size-most : (s : AtomSet) → size s ≤ max-atoms
+size-most s = length-rising-most (has s) max-atoms
 
 -- each number in the list of the members is a member
 pub members-has : (s : AtomSet) (i d : ℕ) → i < size s → has s (getD (members s) i d) ≡ true
-members-has s i d h = rising-passes (has s) 1024 i d h
+members-has s i d h = rising-passes (has s) max-atoms i d h
 
 -- each member has a place in the list of the members
 pub has-place : (s : AtomSet) (a : ℕ) → has s a ≡ true → (i : ℕ) × (i < size s) × (getD (members s) i 0 ≡ a)
-has-place s a h = rising-place (has s) 1024 a (has-low s a h) (has-high s a h) h
+has-place s a h = rising-place (has s) max-atoms a (has-low s a h) (has-high s a h) h
 
 -- the size is the number of marked bits
-pub size-marked : (s : AtomSet) → size s ≡ length (rising (marked (s .words)) 1024)
-size-marked s = ap length (rising-ext (has s) (marked (s .words)) 1024 (λ b low high. has-marked s b (is-atom-from b low high)))
+pub size-marked : (s : AtomSet) → size s ≡ length (rising (marked (s .words)) max-atoms)
+size-marked s = ap length (rising-ext (has s) (marked (s .words)) max-atoms (λ b low high. has-marked s b (is-atom-from b low high)))
 
 -- words of zeros mark nothing
 pub has-zeros : (n a : ℕ) → has (record { words = replicate n 0 }) a ≡ false
@@ -77,7 +78,7 @@ has-zeros n a = and-right (is-atom a) (marked (replicate n 0) a) (marked-zeros n
 
 -- a set without members has size 0
 pub size-none : (s : AtomSet) → ((a : ℕ) → has s a ≡ false) → size s ≡ 0
-size-none s h = ap length (rising-nothing (has s) 1024 (λ a low high. h a))
+size-none s h = ap length (rising-nothing (has s) max-atoms (λ a low high. h a))
 
 -- A set whose words were written so that atom a is marked as v has it, and the others as before.
 module _ (s : AtomSet) (words : List ℕ) (a : ℕ) (v : Bool) (atom : is-atom a ≡ true)
@@ -122,7 +123,7 @@ module _ (s : AtomSet) (words : List ℕ) (a : ℕ) (atom : is-atom a ≡ true) 
     pub size-more : has s a ≡ false → size (record { words = words }) ≡ size s + 1
     size-more out =
         length-rising-one (has s) (has (record { words = words })) a (is-atom-low a atom) out (has-here s words a true atom write)
-        (λ b d. sym (has-there s words a true atom write b d)) 1024 (is-atom-high a atom)
+        (λ b d. sym (has-there s words a true atom write b d)) max-atoms (is-atom-high a atom)
 
   -- one atom less
   module _ (write : (b : ℕ) → marked words b ≡ cond (eqb b a) false (marked (s .words) b)) where
@@ -133,4 +134,4 @@ module _ (s : AtomSet) (words : List ℕ) (a : ℕ) (atom : is-atom a ≡ true) 
     size-less in-set =
         sym
         (length-rising-one (has (record { words = words })) (has s) a (is-atom-low a atom) (has-here s words a false atom write) in-set
-        (has-there s words a false atom write) 1024 (is-atom-high a atom))
+        (has-there s words a false atom write) max-atoms (is-atom-high a atom))

@@ -8,10 +8,12 @@ ghost use Rattle.base.specs.Sets.{is-atom, has, size, Least};
 
 pub const MAX_ATOMS: u32 = 1024;
 
+const SET_WORDS: usize = MAX_ATOMS as usize / 64;
+
 // Atom a is bit (a - 1) % 64 of word (a - 1) / 64.
 #[derive(Clone, Copy)]
 pub struct AtomSet {
-    words: [u64; 16],
+    words: [u64; SET_WORDS],
 }
 
 impl AtomSet {
@@ -19,7 +21,9 @@ impl AtomSet {
         ensures none { λ r. ⌜ ((a : ℕ) → has r a ≡ false) ⌝ }
         ensures size { λ r. ⌜ size r ≡ 0 ⌝ }
     {
-        AtomSet { words: [0; 16] }
+        AtomSet {
+            words: [0; SET_WORDS],
+        }
     }
 
     // Whether an atom is in the set; a number that is no atom is not.

@@ -2,9 +2,10 @@
 use borrow.Author.Needs.{needs}
 use mathlib.Core.Path.{_≡_, sym, ap, _∙_}
 use native.Mathlib.Omega.{arith}
-use Prim.Native.Nat.{_*_, _<_, _^_}
+use Prim.Native.Nat.{_*_, _<_, _^_, _/_}
 use lib.ListN.{length, getD}
 use Rattle.std.proofs.shelf.Bits.{ones-le}
+use Rattle.base.specs.Limits.{max-atoms}
 use Rattle.base.specs.Sets.{marked, rising}
 use Rattle.base.proofs.Bitset.{count-more}
 use Rattle.base.proofs.Rising.{length-rising-none}
@@ -28,5 +29,5 @@ loop-word-again c =
 
 pub returns : need.returns
 returns c =
-    let all : c .loop-word .word-index ≡ 16 = omega arith in
+    let all : c .loop-word .word-index ≡ max-atoms / 64 = omega arith in
     c .loop-word .inv .1 ∙ ap (λ i. length (rising (marked (c .args .self .now .words)) (64 * i))) all ∙ sym (size-marked (c .args .self .now))
