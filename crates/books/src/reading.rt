@@ -1,6 +1,5 @@
 // Reads a book word by word: the opening word, then heads, each with its positive and its negative atoms.
-ghost use mathlib.Core.Path.{_≡_};
-ghost use Prim.Native.Nat.{_<_, _≤_};
+ghost use Prim.Native.Nat.{_<_};
 ghost use Rattle.base.specs.Loading.{Read};
 ghost use Rattle.rules.specs.Growing.{Added};
 ghost use Rattle.rules.specs.Tables.{program};

@@ -2,14 +2,12 @@
 use mathlib.Core.Path.{_≡_, refl, sym, ap, subst, _∙_, fun-ext}
 use mathlib.Core.Logic.{_↔_}
 use mathlib.Core.List.{List, [], _∷_, map}
-use mathlib.Core.Bool.{Bool}
-use Prim.Native.Nat.{ℕ, _+_, _^_, min, _≤_, _<_}
+use Prim.Native.Nat.{ℕ, _^_, min, _≤_, _<_}
 use native.Mathlib.Omega.{arith}
-use lib.ListN.{length, getD}
+use lib.ListN.{getD}
 use Rattle.base.specs.Limits.{max-atoms}
-use Rattle.std.specs.shelf.Lists.{All}
 use Rattle.std.specs.declared.option.Option.{Option}
-use Rattle.std.specs.declared.option.Option.the-variants.{Some, None}
+use Rattle.std.specs.declared.option.Option.the-variants.{Some}
 use Rattle.std.specs.declared.result.Result.{Result}
 use Rattle.std.specs.declared.result.Result.the-variants.{Ok, Err}
 use Rattle.std.proofs.shelf.Elements.{all-from-getD}
@@ -22,7 +20,7 @@ use Rattle.lists.specs.Lists.{IsList, read-list, among}
 use Rattle.lists.specs.Laws.{Words, Taken-exactly-if-rising}
 use Rattle.models.specs.Derives.{Atoms, AnswerSet}
 use Rattle.models.specs.Judging.{Judged}
-use Rattle.case.specs.Calls.{Verdict, Offered, IsPlan, after-offer}
+use Rattle.case.specs.Calls.{Verdict, Offered, IsPlan}
 
 pub words-fit : (ws : List ℕ) → ((i : ℕ) → getD ws i 0 < 2 ^ 32) → Words ws
 words-fit ws fits = all-from-getD (λ w. w < 2 ^ 32) ws 0 (λ i h. fits i)

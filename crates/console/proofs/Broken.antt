@@ -1,6 +1,5 @@
 -- The word for bytes left at the end of a file. Assumes nothing.
 use mathlib.Core.Path.{_≡_, refl, ap}
-use Prim.Native.Nat.{ℕ}
 use lib.Dec.{leb}
 use Rattle.base.specs.Words.{kind, payload}
 use Rattle.base.specs.declared.words.Kind.{Kind}

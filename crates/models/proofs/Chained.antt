@@ -1,15 +1,12 @@
 -- Chains of positions, and one position more. Assumes nothing.
 use mathlib.Core.Path.{_≡_, refl, sym, ap, subst, _∙_}
-use mathlib.Core.Logic.{_⊎_, inl, inr, ⊎-elim}
-use mathlib.Core.List.{List, [], _∷_, _++_}
+use mathlib.Core.Logic.{_⊎_, ⊎-elim}
 use Prim.Native.Nat.{ℕ, zero, suc, _+_, _-_, _≤_, _<_}
 use native.Mathlib.Omega.{arith}
-use lib.ListN.{length, getD, set, take, replicate}
+use lib.ListN.{length, getD, set, replicate}
 use Rattle.std.proofs.shelf.Lists.{length-set, length-replicate, getD-set-same, getD-set-other}
 use Rattle.std.proofs.shelf.Tests.{cases-eq}
-use Rattle.rules.specs.Program.{_∈_, Rule, Program, body-size, weight, Within}
-use Rattle.rules.specs.Asked.{rule-at}
-use Rattle.models.specs.Chains.{atom-places, positions, Leads, Listed, Sane, Indexed}
+use Rattle.models.specs.Chains.{atom-places, positions, Leads, Listed, Sane}
 use Rattle.models.specs.Chains.Leads.{here, on}
 use Rattle.models.specs.declared.occurrences.Occurrences.{Occurrences}
 

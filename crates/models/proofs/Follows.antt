@@ -1,20 +1,20 @@
 -- From what is found to what is derived, and back. Assumes nothing.
-use mathlib.Core.Path.{_≡_, refl, sym, ap, subst, _∙_}
+use mathlib.Core.Path.{_≡_, refl, sym, subst, _∙_}
 use mathlib.Core.Logic.{_⊎_, inl, inr, ⊎-elim}
 use mathlib.Core.List.{List, [], _∷_, _++_}
-use mathlib.Core.Bool.{Bool, true, false, not, _&&_, _||_}
-use Prim.Native.Nat.{ℕ, zero, suc, _+_, _-_, _≤_, _<_}
+use mathlib.Core.Bool.{true, _&&_, _||_}
+use Prim.Native.Nat.{ℕ, _+_, _-_, _<_}
 use native.Mathlib.Omega.{arith}
 use lib.Dec.{eqb}
 use lib.ListN.{length, getD}
-use Rattle.std.proofs.shelf.Tests.{and-parts, and-from, or-cases, or-left, or-right, cases-eq, cases-bool, eq-eqb, eqb-true, false≢true}
+use Rattle.std.proofs.shelf.Tests.{and-parts, and-from, or-cases, or-left, or-right, cases-eq, eq-eqb, eqb-true}
 use Rattle.base.specs.Sets.{is-atom}
-use Rattle.rules.specs.Program.{_∈_, Rule, Program, RuleOver, Within}
+use Rattle.rules.specs.Program.{_∈_, Rule, Program}
 use Rattle.rules.specs.Asked.{no-rule, rule-at}
-use Rattle.rules.proofs.Copied.{at-place, this-over}
+use Rattle.rules.proofs.Copied.{at-place}
 use Rattle.models.specs.Derives.{Atoms, In, Derives}
 use Rattle.models.specs.Derives.Derives.{by-rule}
-use Rattle.models.specs.Chains.{Leads, Listed, Sane, Indexed}
+use Rattle.models.specs.Chains.{Leads, Indexed}
 use Rattle.models.specs.Chains.Leads.{here, on}
 use Rattle.models.specs.Following.{all-of, none-of, firing, Followed, Done, Step, DoneOrAhead}
 use Rattle.models.specs.declared.occurrences.Occurrences.{Occurrences}

@@ -1,7 +1,7 @@
 -- What rules derive is the least set that is closed under the reduct. Assumes nothing.
 use mathlib.Core.Path.{_≡_, refl, sym, ap, subst, _∙_}
-use mathlib.Core.Logic.{_⊎_, inl, inr, ⊎-elim, _↔_}
-use mathlib.Core.List.{List, [], _∷_, map}
+use mathlib.Core.Logic.{_⊎_, inl, inr, ⊎-elim}
+use mathlib.Core.List.{List, [], _∷_}
 use mathlib.Core.Bool.{Bool, true, false, not}
 use Prim.Native.Nat.{ℕ}
 use Rattle.std.specs.shelf.Lists.{kept-by}
@@ -9,7 +9,7 @@ use Rattle.std.proofs.shelf.Tests.{or-cases, or-left, or-right, cases-bool, not
 use Rattle.rules.specs.Program.{_∈_, Rule, Program}
 use Rattle.models.specs.Derives.{Atoms, In, Derives}
 use Rattle.models.specs.Derives.Derives.{by-rule}
-use Rattle.models.specs.Reducts.{meets, without-negative, reduct, Closed, LeastClosed, Derives-is-least-closed-under-the-reduct}
+use Rattle.models.specs.Reducts.{meets, without-negative, reduct, Derives-is-least-closed-under-the-reduct}
 use Rattle.models.proofs.Lists.{in-kept, kept-in, in-map, map-in}
 
 -- a derivation stays within whatever is closed under its rules

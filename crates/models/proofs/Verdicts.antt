@@ -1,8 +1,8 @@
 -- What the verdict on a plan rests on. Assumes nothing.
 use mathlib.Core.Path.{_≡_, refl, sym, ap, subst, _∙_}
 use mathlib.Core.Logic.{_⊎_, inl, inr, ⊎-elim, _↔_}
-use mathlib.Core.Bool.{Bool, true, false, _&&_}
-use Prim.Native.Nat.{ℕ, zero, suc, _+_, _≤_, _<_}
+use mathlib.Core.Bool.{true, false}
+use Prim.Native.Nat.{ℕ, zero, suc, _+_, _≤_}
 use native.Mathlib.Omega.{arith}
 use lib.ListN.{length}
 use Rattle.std.specs.declared.result.Result.{Result}
@@ -17,7 +17,7 @@ use Rattle.models.specs.Derives.{Atoms, In, Derives, AnswerSet}
 use Rattle.models.specs.Derives.Derives.{by-rule}
 use Rattle.models.specs.Judging.{BodyHolds, Satisfied, Unsatisfied, Unfounded, Judged}
 use Rattle.models.specs.Following.{all-of, none-of, firing}
-use Rattle.models.proofs.Lists.{in-at, place-of}
+use Rattle.models.proofs.Lists.{place-of}
 use Rattle.models.proofs.Bodies.{all-of-in, all-of-from, none-of-out, none-of-from}
 use Rattle.models.proofs.Least.{within-closed}
 use Rattle.models.proofs.Follows.{rule-in}

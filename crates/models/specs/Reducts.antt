@@ -1,11 +1,10 @@
 -- The reduct of Gelfond and Lifschitz, and what its least closed set is. Assumes nothing.
-use mathlib.Core.Logic.{_↔_}
 use mathlib.Core.List.{List, [], _∷_, map}
 use mathlib.Core.Bool.{Bool, false, not, _||_}
 use Prim.Native.Nat.{ℕ}
 use Rattle.std.specs.shelf.Lists.{kept-by}
 use Rattle.rules.specs.Program.{_∈_, Rule, Program}
-use Rattle.models.specs.Derives.{Atoms, In, Derives, Exactly}
+use Rattle.models.specs.Derives.{Atoms, In, Derives}
 
 -- some atom of a list is in the set
 abbrev pub meets : Atoms → List ℕ → Bool

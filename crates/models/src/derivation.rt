@@ -1,15 +1,14 @@
 // Derives what follows from rules, by following each derived atom once.
 ghost use mathlib.Core.Path.{_≡_};
-ghost use mathlib.Core.List.{[]};
 ghost use Prim.Native.Nat.{ℕ, _+_, _≤_, _<_};
 ghost use lib.ListN.{length};
 ghost use Rattle.base.specs.Limits.{max-atoms};
 ghost use Rattle.base.specs.Sets.{has, size};
-ghost use Rattle.base.specs.Stacks.{items, room};
+ghost use Rattle.base.specs.Stacks.{items};
 ghost use Rattle.rules.specs.Asked.{rule-at};
 ghost use Rattle.models.specs.Derives.{In, Derives, Exactly};
 ghost use Rattle.models.specs.Reducts.{Derives-is-least-closed-under-the-reduct};
-ghost use Rattle.models.specs.Chains.{Sane, Indexed};
+ghost use Rattle.models.specs.Chains.{Sane};
 ghost use Rattle.models.specs.Following.{State, Step, Done, Following};
 use crate::firing::fires;
 use crate::occurrences::Occurrences;

@@ -1,21 +1,19 @@
 -- What may be added to a program leaves it well formed and within the limits. Assumes nothing.
-use mathlib.Core.Path.{_≡_, refl, sym, ap, subst, _∙_}
+use mathlib.Core.Path.{_≡_, refl, sym, ap, subst}
 use mathlib.Core.List.{List, [], _∷_, _++_}
-use mathlib.Core.Bool.{Bool, true, false, cond}
-use mathlib.Core.Logic.{_⊎_, inl, inr, ⊎-elim}
+use mathlib.Core.Bool.{Bool, true, false}
+use mathlib.Core.Logic.{_⊎_}
 use Prim.Native.Nat.{ℕ, zero, suc, _+_, _-_, _≤_, _<_}
 use native.Mathlib.Omega.{arith}
 use lib.ListN.{length, getD, set}
 use Rattle.rules.specs.Limits.{max-rules, max-body, max-size}
 use Rattle.std.specs.declared.option.Option.the-variants.{Some, None}
-use Rattle.std.specs.shelf.Lists.{All}
 use Rattle.std.proofs.shelf.Elements.{all-set, all-getD, all-push}
-use Rattle.std.proofs.shelf.Lists.{length-set, length-append, length-push}
-use Rattle.std.proofs.shelf.Tests.{cases-bool}
+use Rattle.std.proofs.shelf.Lists.{length-set, length-push}
 use Rattle.std.proofs.shelf.Ways.{tells}
 use Rattle.base.specs.declared.misfit.Misfit.the-variants.{NoForm, OutOfRange, NotRising, PastLimit}
 use Rattle.rules.specs.Program.{Rule, Program, Rising, body-size, weight, RuleOver, Within}
-use Rattle.rules.specs.Asked.{no-rule, rule-at}
+use Rattle.rules.specs.Asked.{no-rule}
 use Rattle.rules.specs.Growing.{with-rule, longer, last-rule, with-literal, last-of, before, rule-misfit, literal-misfit}
 use Rattle.rules.specs.declared.literal.Literal.{Literal}
 use Rattle.rules.proofs.Lookup.{rule-inside}

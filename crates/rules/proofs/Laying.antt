@@ -1,20 +1,19 @@
 -- A table with one rule or one literal more. Assumes nothing.
 use mathlib.Core.Path.{_≡_, refl, sym, ap, _∙_, subst}
 use mathlib.Core.List.{List, [], _∷_, _++_, map}
-use mathlib.Core.Bool.{Bool, true, false, cond}
+use mathlib.Core.Bool.{Bool, true, false}
 use mathlib.Core.Logic.{⊎-elim, ∥∥₁-map}
-use Prim.Native.Nat.{ℕ, zero, suc, _+_, _-_, _≤_, _<_}
+use Prim.Native.Nat.{ℕ, suc, _+_, _-_, _≤_, _<_}
 use native.Mathlib.Omega.{arith}
 use lib.ListN.{length, getD, set, take, drop}
 use Rattle.base.specs.Limits.{max-atoms}
-use Rattle.std.proofs.shelf.Lists.{drop-take, drop-append-le, take-append-le, take-all, length-push, length-set, length-take-le, map-set, map-push, getD-append-left, getD-push, getD-set-same, getD-set-other, getD-map}
+use Rattle.std.proofs.shelf.Lists.{drop-take, drop-append-le, take-append-le, take-all, length-push, length-set, length-take-le, map-set, map-push, getD-append-left, getD-push, getD-set-same, getD-set-other}
 use Rattle.std.proofs.shelf.Tests.{cases-eq}
-use Rattle.rules.specs.Program.{Rule, Program, body-size, weight, Within}
-use Rattle.rules.specs.Asked.{no-rule, rule-at}
+use Rattle.rules.specs.Program.{Rule, Program, weight, Within}
+use Rattle.rules.specs.Asked.{rule-at}
 use Rattle.rules.specs.Growing.{with-rule, longer, last-rule, with-literal}
 use Rattle.rules.specs.Laid.{between, no-entry, entry-rule, laid-program, longer-entry, Ordered}
 use Rattle.rules.specs.declared.table.Entry.{Entry}
-use Rattle.rules.specs.declared.literal.Literal.{Literal}
 use Rattle.rules.proofs.Lookup.{laid-length, laid-rule}
 use Rattle.rules.proofs.Fits.{RuleFits, LiteralFits, rule-weight, rule-within, literal-weight, literal-within}
 

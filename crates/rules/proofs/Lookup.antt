@@ -1,15 +1,15 @@
 -- What stands at a place that counts from 1. Assumes nothing.
 use mathlib.Core.Path.{_≡_, refl, sym, ap, _∙_}
-use mathlib.Core.List.{List, [], _∷_, _++_, map}
-use mathlib.Core.Bool.{Bool, true, false}
-use mathlib.Core.Logic.{_⊎_, inl, inr, ⊎-elim}
+use mathlib.Core.List.{List, [], _∷_, map}
+use mathlib.Core.Bool.{Bool}
+use mathlib.Core.Logic.{_⊎_, ⊎-elim}
 use Prim.Native.Nat.{ℕ, zero, suc, _+_, _-_, _≤_, _<_}
 use native.Mathlib.Omega.{arith}
 use lib.Dec.{ltb}
 use lib.ListN.{length, getD, take, drop}
 use Rattle.std.proofs.shelf.Lists.{getD-past, getD-map, getD-take, getD-drop, getD-append-left, getD-append-right, length-map, length-take-le, length-drop, length-append}
 use Rattle.std.proofs.shelf.Tests.{cases-lt, lt-ltb, le-ltb}
-use Rattle.rules.specs.Program.{Rule, Program, body-size}
+use Rattle.rules.specs.Program.{Program, body-size}
 use Rattle.rules.specs.Asked.{plus, minus, body, no-rule, rule-at}
 use Rattle.rules.specs.Growing.{last-of}
 use Rattle.rules.specs.Laid.{between, no-entry, entry-rule, laid-program, Ordered}

@@ -1,5 +1,5 @@
 -- What the program prints: the report on a plan, and the line of a refusal. Assumes nothing.
-use mathlib.Core.List.{List, [], _∷_, _++_}
+use mathlib.Core.List.{List, [], _++_}
 use mathlib.Core.Bool.{Bool, cond}
 use Prim.Native.Nat.{ℕ, zero, suc, _*_, _/_}
 use lib.Chars.{codes}

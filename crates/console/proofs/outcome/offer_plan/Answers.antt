@@ -1,21 +1,18 @@
-use mathlib.Core.Path.{_≡_, sym, ap, subst, subst₂, _∙_}
+use mathlib.Core.Path.{_≡_, ap, subst, subst₂, _∙_}
 use mathlib.Core.List.{List, map}
 use Prim.Native.Nat.{ℕ}
-use Rattle.std.specs.declared.option.Option.{Option}
 use Rattle.std.specs.declared.option.Option.the-variants.{Some}
-use Rattle.std.specs.declared.result.Result.{Result}
 use Rattle.std.specs.declared.result.Result.the-variants.{Ok, Err}
 use Rattle.std.specs.Of.String.{string-bytes}
 use Rattle.std.proofs.shelf.Results.{made-weaker}
 use Rattle.base.specs.Words.{payload}
-use Rattle.base.specs.declared.refusal.Refusal.{Refusal}
 use Rattle.rules.specs.Program.{Program}
 use Rattle.rules.specs.Tables.{program}
 use Rattle.lists.specs.Lists.{among}
-use Rattle.case.specs.Cases.{rules-of, plan-of}
+use Rattle.case.specs.Cases.{rules-of}
 use Rattle.case.specs.Calls.{Offered}
 use Rattle.texts.specs.Files.{words-of}
-use Rattle.console.specs.Outcomes.{ToldPlan, Reported}
+use Rattle.console.specs.Outcomes.{Reported}
 use Rattle.console.proofs.outcome.offer_plan.Needs as need
 
 pub returns-in-Ok : need.returns-in-Ok

@@ -1,22 +1,19 @@
-use mathlib.Core.Path.{_≡_, refl, sym, ap, subst, _∙_}
-use mathlib.Core.Logic.{_⊎_, inl, inr, ⊎-elim}
-use mathlib.Core.List.{List, [], _∷_, _++_}
+use mathlib.Core.Path.{_≡_, sym, ap, subst, _∙_}
+use mathlib.Core.Logic.{_⊎_, ⊎-elim}
+use mathlib.Core.List.{[], _∷_, _++_}
 use mathlib.Core.Bool.{Bool, true, false, not, cond, _&&_}
-use Prim.Native.Nat.{ℕ, _+_, _≤_, _<_}
+use Prim.Native.Nat.{ℕ, _+_, _<_}
 use native.Mathlib.Omega.{arith}
 use lib.ListN.{length}
 use Rattle.std.proofs.shelf.Lists.{length-push}
 use Rattle.std.proofs.shelf.Tests.{and-cases, not-false, false≢true, lt-ltb}
 use Rattle.base.specs.Sets.{is-atom, has, size}
 use Rattle.base.specs.Stacks.{items, room}
-use Rattle.base.specs.declared.atoms.AtomSet.{AtomSet}
-use Rattle.base.specs.declared.stack.Stack.{Stack}
 use Rattle.base.proofs.Sets.{is-atom-from, size-most}
-use Rattle.rules.specs.Program.{_∈_, Rule, Program, Within}
+use Rattle.rules.specs.Program.{_∈_, Program, Within}
 use Rattle.rules.specs.Asked.{rule-at}
 use Rattle.rules.proofs.Copied.{this-over}
 use Rattle.models.specs.Derives.{Atoms, In, Derives}
-use Rattle.models.specs.Following.{State, Step, firing}
 use Rattle.models.proofs.Lists.{in-parts}
 use Rattle.models.proofs.Follows.{rule-in, fires-derives, grows, there, only, wait-old}
 use Rattle.models.proofs.derivation.consider.Needs as need

@@ -1,12 +1,12 @@
 use mathlib.Core.Path.{_≡_, refl, sym, ap, subst, _∙_}
-use mathlib.Core.List.{List, [], _∷_, _++_}
+use mathlib.Core.List.{[], _∷_, _++_}
 use mathlib.Core.Logic.{inl}
-use Prim.Native.Nat.{ℕ, _+_, _≤_, _<_}
+use Prim.Native.Nat.{_+_, _≤_}
 use native.Mathlib.Omega.{arith}
 use lib.ListN.{length}
 use Rattle.std.proofs.shelf.Lists.{length-push, nil-from-length}
 use Rattle.std.proofs.shelf.Tests.{ltb-false}
-use Rattle.base.specs.Sets.{has, size}
+use Rattle.base.specs.Sets.{has}
 use Rattle.base.specs.Stacks.{items}
 use Rattle.base.proofs.Sets.{has-high, size-most}
 use Rattle.rules.specs.Program.{_∈_}

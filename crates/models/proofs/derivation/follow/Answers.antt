@@ -1,7 +1,5 @@
-use mathlib.Core.Path.{_≡_, refl, sym, _∙_}
-use Prim.Native.Nat.{ℕ, _+_, _<_, _≤_}
+use mathlib.Core.Path.{refl}
 use native.Mathlib.Omega.{arith}
-use lib.ListN.{length, getD}
 use Rattle.base.specs.Sets.{has}
 use Rattle.base.specs.Stacks.{items}
 use Rattle.models.proofs.Follows.{ahead-step, chain-end}

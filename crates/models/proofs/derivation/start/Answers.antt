@@ -1,4 +1,4 @@
-use Prim.Native.Nat.{ℕ, _+_}
+use Prim.Native.Nat.{_+_}
 use borrow.Author.Count.{below-more}
 use native.Mathlib.Omega.{arith}
 use Rattle.base.specs.Sets.{has}

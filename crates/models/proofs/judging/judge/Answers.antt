@@ -1,15 +1,8 @@
-use mathlib.Core.Path.{_≡_, sym, _∙_}
-use mathlib.Core.Logic.{_↔_}
-use Prim.Native.Nat.{ℕ}
-use Rattle.std.specs.declared.result.Result.{Result}
 use Rattle.std.specs.declared.result.Result.the-variants.{Ok, Err}
-use Rattle.std.proofs.shelf.Tests.{both-ways}
-use Rattle.base.specs.Sets.{has, Least}
-use Rattle.base.specs.declared.refusal.Refusal.{Refusal}
-use Rattle.base.specs.declared.refusal.Refusal.the-variants.{RuleNotSatisfied, NotDerived}
-use Rattle.rules.specs.Program.{Program}
-use Rattle.models.specs.Derives.{Atoms, In, Derives, Exactly, AnswerSet}
-use Rattle.models.specs.Judging.{Unsatisfied, Unfounded, Judged}
+use Rattle.base.specs.Sets.{has}
+use Rattle.base.specs.declared.refusal.Refusal.the-variants.{RuleNotSatisfied}
+use Rattle.models.specs.Derives.{AnswerSet}
+use Rattle.models.specs.Judging.{Judged}
 use Rattle.models.proofs.Verdicts.{answers, verdict-exact}
 use Rattle.models.proofs.judging.judge.Needs as need
 

@@ -1,7 +1,7 @@
 use mathlib.Core.Path.{_≡_, refl, sym, ap, subst, _∙_}
 use mathlib.Core.Logic.{_↔_}
 use mathlib.Core.List.{List}
-use Prim.Native.Nat.{ℕ, min}
+use Prim.Native.Nat.{ℕ}
 use Rattle.std.specs.declared.result.Result.{Result}
 use Rattle.std.specs.declared.result.Result.the-variants.{Ok, Err}
 use Rattle.std.proofs.shelf.Results.{err-from-errBy}
@@ -13,7 +13,7 @@ use Rattle.std.specs.declared.option.Option.{Option}
 use Rattle.std.proofs.shelf.Tests.{false≢true}
 use Rattle.rules.specs.Program.{Program}
 use Rattle.models.specs.Derives.{Atoms}
-use Rattle.case.specs.Cases.{rules-of, plan-of}
+use Rattle.case.specs.Cases.{plan-of}
 use Rattle.case.specs.Calls.{Offered, IsPlan, after-offer}
 use Rattle.case.proofs.Offers.{words-fit, atoms-fit, words-refused, words-refused-law, set-judged, set-law, set-stands}
 use Rattle.case.proofs.case.Case.offer.Needs as need

@@ -1,18 +1,18 @@
 use mathlib.Core.Path.{_≡_, refl, sym, ap, subst, _∙_}
-use mathlib.Core.Logic.{_⊎_, inl, inr, ⊎-elim}
-use mathlib.Core.List.{List, [], _∷_, _++_}
-use mathlib.Core.Bool.{Bool, true, false}
+use mathlib.Core.Logic.{_⊎_, ⊎-elim}
+use mathlib.Core.List.{[], _∷_, _++_}
+use mathlib.Core.Bool.{true, false}
 use Prim.Native.Nat.{ℕ, _+_, _≤_, _<_}
 use borrow.Author.Count.{below-more}
 use native.Mathlib.Omega.{arith}
 use lib.ListN.{length, getD, take}
 use Rattle.std.proofs.shelf.Lists.{take-more, take-all}
 use Rattle.std.proofs.shelf.Tests.{true≢false, not-true, not-false}
-use Rattle.rules.specs.Program.{_∈_, Rule, Program, body-size, weight, Within}
-use Rattle.rules.specs.Asked.{plus, body, rule-at, literal-at}
+use Rattle.rules.specs.Program.{_∈_, Rule, Program, body-size, Within}
+use Rattle.rules.specs.Asked.{plus, body, rule-at}
 use Rattle.rules.specs.declared.literal.Literal.{Literal}
 use Rattle.rules.proofs.Copied.{literal-cases, this-over, next-high, weights, weight-more}
-use Rattle.models.specs.Chains.{Listed, Sane, Indexed}
+use Rattle.models.specs.Chains.{Listed}
 use Rattle.models.proofs.Lists.{in-parts}
 use Rattle.models.proofs.occurrences.Occurrences.enter.Needs as need
 

@@ -1,8 +1,5 @@
-use mathlib.Core.Path.{_≡_, refl, subst}
+use mathlib.Core.Path.{refl}
 use native.Mathlib.Omega.{arith}
-use lib.ListN.{length, replicate}
-use Rattle.std.proofs.shelf.Lists.{length-replicate}
-use Rattle.models.specs.Chains.{Indexed}
 use Rattle.models.proofs.Chained.{bare-sane}
 use Rattle.models.proofs.occurrences.Occurrences.of.Needs as need
 

@@ -1,4 +1,3 @@
-use native.Mathlib.Omega.{arith}
 use Rattle.std.specs.Of.Vec.{vec-items}
 use Rattle.rules.proofs.Laying.{empty-program, empty-keeps}
 use Rattle.rules.proofs.table.RuleTable.bare.Needs as need

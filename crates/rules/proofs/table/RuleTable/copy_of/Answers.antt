@@ -1,8 +1,7 @@
-use mathlib.Core.Path.{_≡_, sym, ap, _∙_}
+use mathlib.Core.Path.{ap, _∙_}
 use mathlib.Core.List.{[]}
 use native.Mathlib.Omega.{arith}
 use Rattle.std.proofs.shelf.Lists.{take-all}
-use Rattle.rules.specs.Program.{Program}
 use Rattle.rules.proofs.table.RuleTable.copy_of.Needs as need
 
 pub loop-i-holds : need.loop-i-holds

@@ -1,4 +1,4 @@
-use mathlib.Core.Path.{_≡_, sym, ap, ap₂, _∙_}
+use mathlib.Core.Path.{ap, ap₂, _∙_}
 use native.Mathlib.Omega.{arith}
 use Rattle.rules.specs.Program.{Program}
 use Rattle.rules.specs.Growing.{rule-misfit, literal-misfit, with-rule, with-literal}

@@ -1,10 +1,10 @@
-use mathlib.Core.Path.{_≡_, refl, sym, ap, subst, _∙_}
+use mathlib.Core.Path.{_≡_, sym, ap, subst, _∙_}
 use Prim.Native.Nat.{_-_, _<_}
 use native.Mathlib.Omega.{arith}
 use lib.ListN.{length, getD}
 use Rattle.std.specs.Of.Vec.{vec-items}
 use Rattle.std.proofs.shelf.Lists.{getD-read}
-use Rattle.rules.specs.Asked.{no-rule, rule-at}
+use Rattle.rules.specs.Asked.{rule-at}
 use Rattle.rules.specs.Laid.{entry-rule, no-entry, Ordered}
 use Rattle.rules.specs.Tables.{program}
 use Rattle.rules.proofs.Lookup.{laid-rule, laid-none}

@@ -1,7 +1,7 @@
 use mathlib.Core.Path.{ap, sym, _∙_}
 use mathlib.Core.Bool.{Bool, cond}
 use Rattle.rules.specs.Program.{Rule}
-use Rattle.rules.specs.Growing.{before, last-rule, last-of}
+use Rattle.rules.specs.Growing.{last-rule, last-of}
 use Rattle.rules.specs.Tables.{program}
 use Rattle.rules.proofs.table.RuleTable.last_before.Needs as need
 

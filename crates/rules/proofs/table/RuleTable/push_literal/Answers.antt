@@ -1,7 +1,5 @@
-use mathlib.Core.Path.{_≡_, refl, sym, ap, ap₂, subst, subst₂, _∙_}
-use mathlib.Core.Bool.{Bool}
-use mathlib.Core.List.{List, [], _∷_, _++_}
-use Prim.Native.Nat.{ℕ, _+_, _-_, _<_, _≤_}
+use mathlib.Core.Path.{_≡_, sym, ap, ap₂, subst₂, _∙_}
+use Prim.Native.Nat.{ℕ, _-_, _<_}
 use native.Mathlib.Omega.{arith}
 use lib.ListN.{length, getD, set}
 use Rattle.std.specs.Of.Vec.{vec-items}
@@ -13,7 +11,7 @@ use Rattle.rules.specs.Tables.{program}
 use Rattle.rules.specs.declared.table.Entry.{Entry}
 use Rattle.rules.specs.declared.table.RuleTable.{RuleTable}
 use Rattle.rules.specs.declared.literal.Literal.{Literal}
-use Rattle.rules.proofs.Fits.{LiteralFits, literal-fits}
+use Rattle.rules.proofs.Fits.{literal-fits}
 use Rattle.rules.proofs.Lookup.{laid-length}
 use Rattle.rules.proofs.Laying.{Laid, literal-laid, literal-keeps}
 use Rattle.rules.proofs.table.RuleTable.push_literal.Needs as need

@@ -1,17 +1,13 @@
 use mathlib.Core.Path.{_≡_, sym, ap, subst, _∙_}
-use mathlib.Core.Bool.{cond}
-use mathlib.Core.List.{List, [], _∷_, _++_}
-use native.Mathlib.Omega.{arith}
+use mathlib.Core.List.{[], _∷_, _++_}
 use lib.ListN.{length}
 use Rattle.std.specs.Of.Vec.{vec-items}
 use Rattle.std.specs.Results.{isOk}
 use Rattle.std.proofs.shelf.Tests.{cond-both}
-use Rattle.rules.specs.Program.{Program}
 use Rattle.rules.specs.Laid.{laid-program}
 use Rattle.rules.specs.Tables.{program}
-use Rattle.rules.specs.declared.table.Entry.{Entry}
 use Rattle.rules.proofs.Fits.{rule-fits}
-use Rattle.rules.proofs.Laying.{Laid, fresh, rule-laid, rule-keeps}
+use Rattle.rules.proofs.Laying.{Laid, rule-laid, rule-keeps}
 use Rattle.rules.proofs.table.RuleTable.push_rule.Needs as need
 
 pub ghost-self : need.ghost-self

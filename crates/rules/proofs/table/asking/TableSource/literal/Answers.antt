@@ -1,4 +1,4 @@
-use mathlib.Core.Path.{_≡_, refl, sym, ap, _∙_}
+use mathlib.Core.Path.{_≡_, sym, ap, _∙_}
 use mathlib.Core.List.{_∷_}
 use Prim.Native.Nat.{_+_, _-_}
 use native.Mathlib.Omega.{arith}
@@ -9,7 +9,6 @@ use Rattle.std.proofs.shelf.Lists.{getD-read}
 use Rattle.rules.specs.Program.{Rule}
 use Rattle.rules.specs.Asked.{plus, body, literal-at}
 use Rattle.rules.specs.Tables.{program}
-use Rattle.rules.specs.declared.literal.Literal.{Literal}
 use Rattle.rules.proofs.Lookup.{cons-at, entry-literal, entry-past}
 use Rattle.rules.proofs.table.asking.TableSource.literal.Needs as need
 use Rattle.rules.proofs.table.asking.TableSource.literal.Needs.{then-place-eq0·by·then-place-eq0, then-place-eq0·by·else-place-eq0·then-place-e}
