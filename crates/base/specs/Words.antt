@@ -1,5 +1,7 @@
 -- The kind and the payload of a word. Assumes nothing.
-use Prim.Native.Nat.{ℕ, zero, suc, _+_, _*_, _/_, _%_, _^_}
+use mathlib.Core.List.{List}
+use Prim.Native.Nat.{ℕ, zero, suc, _+_, _*_, _/_, _%_, _^_, _<_}
+use Rattle.std.specs.shelf.Lists.{All}
 use Rattle.base.specs.declared.words.Kind.{Kind}
 use Rattle.base.specs.declared.words.Kind.the-variants.{Head, Positive, Negative, Member, TrueNode, FalseNode, Link, Opening}
 
@@ -34,3 +36,7 @@ payload w = w % 2 ^ 29
 -- the word of a kind and a payload
 unfoldable pub word : Kind → ℕ → ℕ
 word k p = code k * 2 ^ 29 + p
+
+-- words have 32 bits
+abbrev pub Words : List ℕ → Type 0
+Words ws = All (λ w. w < 2 ^ 32) ws

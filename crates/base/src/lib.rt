@@ -25,5 +25,8 @@ pub use refusal::RefusalEq;
 pub use refusal::RefusalPartialEq;
 pub use stack::Stack;
 pub use words::Kind;
+pub use words::KindDebug;
+pub use words::KindEq;
+pub use words::KindPartialEq;
 pub use words::kind_of;
 pub use words::payload_of;

@@ -13,7 +13,7 @@ use Rattle.std.specs.declared.result.Result.the-variants.{Ok}
 use Rattle.std.proofs.shelf.Lists.{append-assoc, append-nil, map-append, map-push, joined-more, nil-from-length, take-more, take-all, drop-more, drop-all, set-split, length-push, length-append, length-map}
 use Rattle.std.proofs.shelf.Lanes.{map-map}
 use Rattle.std.proofs.shelf.Ways.{tells}
-use Rattle.base.specs.Words.{kind, payload, word}
+use Rattle.base.specs.Words.{kind, payload, word, Words}
 use Rattle.base.specs.declared.words.Kind.{Kind}
 use Rattle.base.specs.declared.words.Kind.the-variants.{Head, Positive, Negative, Member, TrueNode, FalseNode, Link, Opening}
 use Rattle.base.proofs.WordForms.{kind-word, payload-word, word-of}
@@ -25,7 +25,7 @@ use Rattle.rules.proofs.Lookup.{cons-at, rule-inside}
 use Rattle.rules.proofs.Copied.{at-place, partly, partly-none, partly-more, partly-all, this-over, rule-allowed, literal-allowed}
 use Rattle.rules.proofs.Fits.{LiteralFits, rule-fits, literal-fits, rule-within, literal-within}
 use Rattle.books.specs.Books.{rule-words, book-words, IsBook, opening-misfit, kind-misfit, word-misfit, with-kind, with-word, or-refuse, read-on, bare, read-book}
-use Rattle.books.specs.Laws.{Words, Taken-exactly-if-encoded}
+use Rattle.books.specs.Laws.{Taken-exactly-if-encoded}
 use Rattle.books.proofs.Stepwise.{misfit-clash, refusal-clash, same-program, read-on-end, read-on-next, taken, before-limit, kind-fits, adds, free}
 
 abbrev sign : Bool → Kind

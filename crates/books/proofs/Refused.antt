@@ -11,7 +11,7 @@ use Rattle.std.specs.declared.result.Result.{Result}
 use Rattle.std.specs.declared.result.Result.the-variants.{Ok, Err}
 use Rattle.std.proofs.shelf.Lists.{append-assoc, take-at, length-push, length-append}
 use Rattle.std.proofs.shelf.Elements.{all-take}
-use Rattle.base.specs.Words.{kind, payload}
+use Rattle.base.specs.Words.{kind, payload, Words}
 use Rattle.base.specs.Refusals.{value-of, refused-at}
 use Rattle.base.specs.declared.misfit.Misfit.{Misfit}
 use Rattle.base.specs.declared.misfit.Misfit.the-variants.{NoForm, OutOfRange, NotRising, PastLimit}
@@ -19,7 +19,7 @@ use Rattle.base.specs.declared.refusal.Refusal.{Refusal}
 use Rattle.base.specs.declared.refusal.Refusal.the-variants as refusal
 use Rattle.rules.specs.Program.{Program}
 use Rattle.books.specs.Books.{IsBook, opening-misfit, word-misfit, with-word, or-refuse, read-on, bare, read-book}
-use Rattle.books.specs.Laws.{Words, RefusedAt, Refused-where-no-book-goes-on}
+use Rattle.books.specs.Laws.{RefusedAt, Refused-where-no-book-goes-on}
 use Rattle.books.proofs.Stepwise.{misfit-clash, refusal-clash, read-on-end, read-on-next, taken, stopped, read-book-append}
 use Rattle.books.proofs.Encoded.{taken-encoded, encoded-taken}
 

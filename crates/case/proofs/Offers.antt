@@ -11,13 +11,13 @@ use Rattle.std.specs.declared.option.Option.the-variants.{Some}
 use Rattle.std.specs.declared.result.Result.{Result}
 use Rattle.std.specs.declared.result.Result.the-variants.{Ok, Err}
 use Rattle.std.proofs.shelf.Elements.{all-from-getD}
-use Rattle.base.specs.Words.{payload, word}
+use Rattle.base.specs.Words.{payload, word, Words}
 use Rattle.base.specs.declared.words.Kind.the-variants.{Member}
 use Rattle.base.specs.declared.refusal.Refusal.{Refusal}
 use Rattle.base.proofs.WordForms.{payload-word}
 use Rattle.rules.specs.Program.{Program, Rising, Within}
 use Rattle.lists.specs.Lists.{IsList, read-list, among}
-use Rattle.lists.specs.Laws.{Words, Taken-exactly-if-rising}
+use Rattle.lists.specs.Laws.{Taken-exactly-if-rising}
 use Rattle.models.specs.Derives.{Atoms, AnswerSet}
 use Rattle.models.specs.Judging.{Judged}
 use Rattle.case.specs.Calls.{Verdict, Offered, IsPlan}

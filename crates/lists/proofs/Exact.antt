@@ -9,14 +9,14 @@ use Rattle.std.specs.declared.option.Option.the-variants.{Some, None}
 use Rattle.std.specs.declared.result.Result.{Result}
 use Rattle.std.specs.declared.result.Result.the-variants.{Ok, Err}
 use Rattle.std.proofs.shelf.Ways.{tells}
-use Rattle.base.specs.Words.{kind, payload, word}
+use Rattle.base.specs.Words.{kind, payload, word, Words}
 use Rattle.base.specs.declared.words.Kind.the-variants.{Member}
 use Rattle.base.specs.declared.misfit.Misfit.{Misfit}
 use Rattle.base.specs.declared.refusal.Refusal.{Refusal}
 use Rattle.base.proofs.WordForms.{kind-word, payload-word, word-of}
 use Rattle.rules.specs.Program.{Rising}
 use Rattle.lists.specs.Lists.{IsList, member-misfit, or-refuse, read-from, read-list}
-use Rattle.lists.specs.Laws.{Words, Taken-exactly-if-rising}
+use Rattle.lists.specs.Laws.{Taken-exactly-if-rising}
 use Rattle.lists.proofs.Steps.{read-none, read-word, fitting}
 
 -- a word was taken, and the atoms behind it

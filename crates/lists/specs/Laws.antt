@@ -2,18 +2,14 @@
 use mathlib.Core.Path.{_≡_}
 use mathlib.Core.Logic.{_↔_}
 use mathlib.Core.List.{List, _++_}
-use Prim.Native.Nat.{ℕ, _+_, _^_, _≤_, _<_}
+use Prim.Native.Nat.{ℕ, _+_, _≤_, _<_}
 use lib.ListN.{length, take}
-use Rattle.std.specs.shelf.Lists.{All}
 use Rattle.std.specs.declared.result.Result.the-variants.{Ok, Err}
 use Rattle.base.specs.Limits.{max-atoms}
+use Rattle.base.specs.Words.{Words}
 use Rattle.base.specs.Refusals.{value-of}
 use Rattle.base.specs.declared.refusal.Refusal.{Refusal}
 use Rattle.lists.specs.Lists.{IsList, read-list}
-
--- words have 32 bits
-abbrev pub Words : List ℕ → Type 0
-Words ws = All (λ w. w < 2 ^ 32) ws
 
 -- words are taken exactly if they encode a rising list of atoms from 1 to n, and then as that list
 abbrev pub Taken-exactly-if-rising : Type 0
