@@ -24,7 +24,8 @@ use Rattle.rules.specs.declared.literal.Literal.{Literal}
 use Rattle.rules.proofs.Lookup.{cons-at, rule-inside}
 use Rattle.rules.proofs.Copied.{at-place, partly, partly-none, partly-more, partly-all, this-over, rule-allowed, literal-allowed}
 use Rattle.rules.proofs.Fits.{LiteralFits, rule-fits, literal-fits, rule-within, literal-within}
-use Rattle.books.specs.Books.{rule-words, book-words, IsBook, opening-misfit, kind-misfit, word-misfit, with-kind, with-word, or-refuse, read-on, bare, read-book}
+use Rattle.base.specs.Loading.{or-refuse}
+use Rattle.books.specs.Books.{rule-words, book-words, IsBook, opening-misfit, kind-misfit, word-misfit, with-kind, with-word, read-on, bare, read-book}
 use Rattle.books.specs.Laws.{Taken-exactly-if-encoded}
 use Rattle.books.proofs.Stepwise.{misfit-clash, refusal-clash, same-program, read-on-end, read-on-next, taken, before-limit, kind-fits, adds, free}
 

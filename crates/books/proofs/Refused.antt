@@ -18,7 +18,8 @@ use Rattle.base.specs.declared.misfit.Misfit.the-variants.{NoForm, OutOfRange, 
 use Rattle.base.specs.declared.refusal.Refusal.{Refusal}
 use Rattle.base.specs.declared.refusal.Refusal.the-variants as refusal
 use Rattle.rules.specs.Program.{Program}
-use Rattle.books.specs.Books.{IsBook, opening-misfit, word-misfit, with-word, or-refuse, read-on, bare, read-book}
+use Rattle.base.specs.Loading.{or-refuse}
+use Rattle.books.specs.Books.{IsBook, opening-misfit, word-misfit, with-word, read-on, bare, read-book}
 use Rattle.books.specs.Laws.{RefusedAt, Refused-where-no-book-goes-on}
 use Rattle.books.proofs.Stepwise.{misfit-clash, refusal-clash, read-on-end, read-on-next, taken, stopped, read-book-append}
 use Rattle.books.proofs.Encoded.{taken-encoded, encoded-taken}

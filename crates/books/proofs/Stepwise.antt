@@ -23,8 +23,9 @@ use Rattle.base.specs.declared.misfit.Misfit.the-variants.{PastLimit}
 use Rattle.base.specs.declared.refusal.Refusal.{Refusal}
 use Rattle.base.proofs.WordForms.{kind-word, payload-word}
 use Rattle.rules.specs.Program.{Program}
-use Rattle.rules.specs.Growing.{unless}
-use Rattle.books.specs.Books.{opening-misfit, bare, kind-misfit, word-misfit, with-kind, with-word, or-refuse, read-on, read-opening, read-book}
+use Rattle.rules.specs.Growing.{cause-if}
+use Rattle.base.specs.Loading.{or-refuse}
+use Rattle.books.specs.Books.{opening-misfit, bare, kind-misfit, word-misfit, with-kind, with-word, read-on, read-opening, read-book}
 
 pub misfit-clash : {X : Type 0} {m : Misfit} → _≡_ {A = Option Misfit} (Some m) None → X
 misfit-clash e = let z : _≡_ {A = ℕ} 0 1 = cc in absurd (omega arith)
@@ -83,7 +84,7 @@ opening-then (w ∷ ws) P e =
 pub kind-fits : (P : Program) (place w : ℕ) → word-misfit P place w ≡ None → kind-misfit P (kind w) (payload w) ≡ None
 kind-fits P place w e = by-test (leb max-words place) (kind-misfit P (kind w) (payload w)) e
   where
-    by-test : (b : Bool) (m : Option Misfit) → unless b PastLimit m ≡ None → m ≡ None
+    by-test : (b : Bool) (m : Option Misfit) → cause-if b PastLimit m ≡ None → m ≡ None
     by-test true m e = misfit-clash e
     by-test false m e = e
 
@@ -96,7 +97,7 @@ module _ (P : Program) (k : Kind) (a : ℕ) (small : a < 2 ^ 29) where
   adds = ap₂ (with-kind P) (kind-word k a small) (payload-word k a small)
 
   pub free : (place : ℕ) → place < max-words → kind-misfit P k a ≡ None → word-misfit P place (word k a) ≡ None
-  free place h e = ap₂ (λ b m. unless b PastLimit m) (lt-leb max-words place h) (ap₂ (kind-misfit P) (kind-word k a small) (payload-word k a small) ∙ e)
+  free place h e = ap₂ (λ b m. cause-if b PastLimit m) (lt-leb max-words place h) (ap₂ (kind-misfit P) (kind-word k a small) (payload-word k a small) ∙ e)
 
 -- reading goes on behind what was read
 pub read-on-append : (P : Program) (place : ℕ) (us vs : List ℕ) (Q : Program) → read-on P place us ≡ Ok Q → read-on P place (us ++ vs) ≡ read-on Q (place + length us) vs

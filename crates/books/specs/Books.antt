@@ -12,7 +12,7 @@ use Rattle.std.specs.declared.result.Result.{Result}
 use Rattle.std.specs.declared.result.Result.the-variants.{Ok, Err}
 use Rattle.base.specs.Limits.{max-atoms}
 use Rattle.base.specs.Words.{kind, payload, word}
-use Rattle.base.specs.Refusals.{refused-at}
+use Rattle.base.specs.Loading.{or-refuse}
 use Rattle.base.specs.declared.words.Kind.{Kind}
 use Rattle.base.specs.declared.words.Kind.the-variants.{Head, Positive, Negative, Member, TrueNode, FalseNode, Link, Opening}
 use Rattle.base.specs.declared.misfit.Misfit.{Misfit}
@@ -21,7 +21,7 @@ use Rattle.base.specs.declared.refusal.Refusal.{Refusal}
 use Rattle.base.specs.declared.refusal.Refusal.the-variants as refusal
 use Rattle.rules.specs.Program.{Rule, Program, Within}
 use Rattle.rules.specs.Asked.{plus, minus}
-use Rattle.rules.specs.Growing.{with-rule, with-literal, rule-misfit, literal-misfit, unless}
+use Rattle.rules.specs.Growing.{with-rule, with-literal, rule-misfit, literal-misfit, cause-if}
 use Rattle.books.specs.Limits.{max-words}
 
 -- a rule as words: its head, its positive atoms, its negative atoms
@@ -61,7 +61,7 @@ kind-misfit P Link a = Some NoForm
 kind-misfit P Opening a = Some NoForm
 
 abbrev pub word-misfit : Program → ℕ → ℕ → Option Misfit
-word-misfit P place w = unless (leb max-words place) PastLimit (kind-misfit P (kind w) (payload w))
+word-misfit P place w = cause-if (leb max-words place) PastLimit (kind-misfit P (kind w) (payload w))
 
 -- the program with what a word adds to it
 abbrev pub with-kind : Program → Kind → ℕ → Program
@@ -76,11 +76,6 @@ with-kind P Opening a = P
 
 abbrev pub with-word : Program → ℕ → Program
 with-word P w = with-kind P (kind w) (payload w)
-
--- goes on where no misfit is found, and refuses the word at the place else
-abbrev pub or-refuse : Option Misfit → ℕ → Result Program Refusal → Result Program Refusal
-or-refuse None place rest = rest
-or-refuse (Some m) place rest = Err (refused-at m place)
 
 -- the words behind those of P, from a place on
 unfoldable pub read-on : Program → ℕ → List ℕ → Result Program Refusal

@@ -13,7 +13,7 @@ use Rattle.base.specs.declared.atoms.AtomSet.{AtomSet}
 use Rattle.base.specs.declared.misfit.Misfit.the-variants.{NoForm, PastLimit}
 use Rattle.base.specs.declared.refusal.Refusal.{Refusal}
 use Rattle.rules.specs.Program.{Program}
-use Rattle.rules.specs.Growing.{unless}
+use Rattle.rules.specs.Growing.{cause-if}
 use Rattle.books.specs.Limits.{max-words}
 use Rattle.books.specs.Books.{opening-misfit, word-misfit}
 use Rattle.lists.specs.Lists.{member-misfit, among}
@@ -54,5 +54,5 @@ Told (Err f) ws passed text = Refusing f passed text
 -- the words of a book unless it is past their limit, and not in a plan
 pub record Broken-word-fits-no-form : Type 0 where
   pub opening : opening-misfit (kind broken-word) (payload broken-word) ≡ Some NoForm
-  pub later : (P : Program) (place : ℕ) → word-misfit P place broken-word ≡ unless (leb max-words place) PastLimit (Some NoForm)
+  pub later : (P : Program) (place : ℕ) → word-misfit P place broken-word ≡ cause-if (leb max-words place) PastLimit (Some NoForm)
   pub listed : (n last : ℕ) → member-misfit n last (kind broken-word) (payload broken-word) ≡ Some NoForm

@@ -15,7 +15,7 @@ use Rattle.base.specs.declared.misfit.Misfit.{Misfit}
 use Rattle.base.specs.declared.refusal.Refusal.{Refusal}
 use Rattle.base.proofs.WordForms.{kind-word, payload-word, word-of}
 use Rattle.rules.specs.Program.{Rising}
-use Rattle.lists.specs.Lists.{IsList, member-misfit, or-refuse, read-from, read-list}
+use Rattle.lists.specs.Lists.{IsList, member-misfit, put-or-refuse, read-from, read-list}
 use Rattle.lists.specs.Laws.{Taken-exactly-if-rising}
 use Rattle.lists.proofs.Steps.{read-none, read-word, fitting}
 
@@ -26,7 +26,7 @@ record WentOn (m : Option Misfit) (a : ℕ) (r : Result (List ℕ) Refusal) (ato
   read : r ≡ Ok others
   together : atoms ≡ a ∷ others
 
-went-on : (m : Option Misfit) (place a : ℕ) (r : Result (List ℕ) Refusal) (atoms : List ℕ) → or-refuse m place a r ≡ Ok atoms → WentOn m a r atoms
+went-on : (m : Option Misfit) (place a : ℕ) (r : Result (List ℕ) Refusal) (atoms : List ℕ) → put-or-refuse m place a r ≡ Ok atoms → WentOn m a r atoms
 went-on None place a (Ok others) atoms e = record { fits = refl; others = others; read = refl; together = cc }
 went-on None place a (Err f) atoms e = grind arith
 went-on (Some m) place a r atoms e = grind arith
@@ -55,8 +55,8 @@ rising-taken n few last place (a ∷ atoms) r =
     let rest = rising-taken n few a (suc place) atoms (r .2) in
     let fits : member-misfit n last Member a ≡ None = grind (arith, tells) in
     read-word n last place (word Member a) (map (word Member) atoms)
-    ∙ ap₂ (λ k b. or-refuse (member-misfit n last k b) place b (read-from n b (suc place) (map (word Member) atoms))) (kind-word Member a short) (payload-word Member a short)
-    ∙ ap₂ (λ m t. or-refuse m place a t) fits rest
+    ∙ ap₂ (λ k b. put-or-refuse (member-misfit n last k b) place b (read-from n b (suc place) (map (word Member) atoms))) (kind-word Member a short) (payload-word Member a short)
+    ∙ ap₂ (λ m t. put-or-refuse m place a t) fits rest
 
 pub list-taken : (n : ℕ) → n ≤ max-atoms → (ws atoms : List ℕ) → IsList n atoms ws → read-list n ws ≡ Ok atoms
 list-taken n few ws atoms l = ap (read-list n) (l .encoded) ∙ rising-taken n few 0 0 atoms (l .rising)

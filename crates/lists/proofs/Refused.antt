@@ -15,7 +15,7 @@ use Rattle.base.specs.Refusals.{value-of, refused-at}
 use Rattle.base.specs.declared.misfit.Misfit.{Misfit}
 use Rattle.base.specs.declared.misfit.Misfit.the-variants.{NoForm, OutOfRange, NotRising, PastLimit}
 use Rattle.base.specs.declared.refusal.Refusal.{Refusal}
-use Rattle.lists.specs.Lists.{member-misfit, or-refuse, read-from, read-list}
+use Rattle.lists.specs.Lists.{member-misfit, put-or-refuse, read-from, read-list}
 use Rattle.lists.specs.Laws.{RefusedAt, Refused-where-no-list-goes-on}
 use Rattle.lists.proofs.Steps.{read-none, read-word}
 use Rattle.lists.proofs.Exact.{list-taken, taken-exactly}
@@ -27,7 +27,7 @@ value-at NotRising place = refl
 value-at PastLimit place = refl
 
 -- the word was taken and a later one refused, or it was refused itself
-refused-cases : (m : Option Misfit) (place a : ℕ) (r : Result (List ℕ) Refusal) (f : Refusal) → or-refuse m place a r ≡ Err f →
+refused-cases : (m : Option Misfit) (place a : ℕ) (r : Result (List ℕ) Refusal) (f : Refusal) → put-or-refuse m place a r ≡ Err f →
     ((m ≡ None) × (r ≡ Err f)) ⊎ ((c : Misfit) × (m ≡ Some c) × (f ≡ refused-at c place))
 refused-cases None place a (Ok xs) f e = grind arith
 refused-cases None place a (Err g) f e = inl (refl, cc)
@@ -58,14 +58,14 @@ refused-from n last place (w ∷ ws) f e =
           before = read-none n last place;
           stuck = λ rest.
               read-word n last place w rest
-              ∙ ap (λ m. or-refuse m place (payload w) (read-from n (payload w) (suc place) rest)) (c .1)
+              ∙ ap (λ m. put-or-refuse m place (payload w) (read-from n (payload w) (suc place) rest)) (c .1)
               ∙ ap Err (sym (c .2));
         }
 
     later : member-misfit n last (kind w) (payload w) ≡ None → RefusedFrom n (payload w) (suc place) ws f → RefusedFrom n last place (w ∷ ws) f
     later fits r =
-        let step : (vs : List ℕ) (t : Result (List ℕ) Refusal) → read-from n (payload w) (suc place) vs ≡ t → read-from n last place (w ∷ vs) ≡ or-refuse None place (payload w) t =
-        λ vs t h. read-word n last place w vs ∙ ap₂ (λ m x. or-refuse m place (payload w) x) fits h in
+        let step : (vs : List ℕ) (t : Result (List ℕ) Refusal) → read-from n (payload w) (suc place) vs ≡ t → read-from n last place (w ∷ vs) ≡ put-or-refuse None place (payload w) t =
+        λ vs t h. read-word n last place w vs ∙ ap₂ (λ m x. put-or-refuse m place (payload w) x) fits h in
         record {
           taken = suc (r .taken);
           value = omega (arith, r .value);

@@ -22,14 +22,14 @@ use Rattle.base.specs.declared.words.Kind.the-variants.{Head, Positive, Negativ
 use Rattle.base.specs.declared.misfit.Misfit.{Misfit}
 use Rattle.base.specs.declared.refusal.Refusal.{Refusal}
 use Rattle.base.proofs.Sets.{is-atom-from}
-use Rattle.lists.specs.Lists.{member-misfit, or-refuse, read-from, read-list, among, ListRead}
+use Rattle.lists.specs.Lists.{member-misfit, put-or-refuse, read-from, read-list, among, ListRead}
 use Rattle.lists.proofs.Among.{among-push}
 
 pub read-none : (n last place : ℕ) → read-from n last place [] ≡ Ok []
 unfolding read-from
 read-none n last place = refl
 
-pub read-word : (n last place w : ℕ) (ws : List ℕ) → read-from n last place (w ∷ ws) ≡ or-refuse (member-misfit n last (kind w) (payload w)) place (payload w) (read-from n (payload w) (suc place) ws)
+pub read-word : (n last place w : ℕ) (ws : List ℕ) → read-from n last place (w ∷ ws) ≡ put-or-refuse (member-misfit n last (kind w) (payload w)) place (payload w) (read-from n (payload w) (suc place) ws)
 unfolding read-from
 read-word n last place w ws = refl
 
@@ -59,7 +59,7 @@ behind-none : (r : Result (List ℕ) Refusal) → r ≡ behind [] r
 behind-none (Ok ys) = refl
 behind-none (Err f) = refl
 
-behind-push : (xs : List ℕ) (place a : ℕ) (r : Result (List ℕ) Refusal) → behind xs (or-refuse None place a r) ≡ behind (xs ++ a ∷ []) r
+behind-push : (xs : List ℕ) (place a : ℕ) (r : Result (List ℕ) Refusal) → behind xs (put-or-refuse None place a r) ≡ behind (xs ++ a ∷ []) r
 behind-push xs place a (Ok ys) = ap Ok (sym (append-assoc xs (a ∷ []) ys))
 behind-push xs place a (Err f) = refl
 
@@ -92,13 +92,13 @@ module _ (n : ℕ) (ws : List ℕ) (set : AtomSet) (last place : ℕ) (s : ReadS
     here = getD ws place 0
 
     next : (m : Option Misfit) → m ≡ member-misfit n last (kind here) (payload here) →
-        read-list n ws ≡ behind (map payload (take place ws)) (or-refuse m place (payload here) (read-from n (payload here) (suc place) (drop (place + 1) ws)))
+        read-list n ws ≡ behind (map payload (take place ws)) (put-or-refuse m place (payload here) (read-from n (payload here) (suc place) (drop (place + 1) ws)))
     next m e =
         let xs : List ℕ = map payload (take place ws) in
         s .reads
         ∙ ap (λ vs. behind xs (read-from n last place vs)) (drop-more ws place 0 inside)
         ∙ ap (behind xs) (read-word n last place here (drop (place + 1) ws))
-        ∙ ap (λ o. behind xs (or-refuse o place (payload here) (read-from n (payload here) (suc place) (drop (place + 1) ws)))) (sym e)
+        ∙ ap (λ o. behind xs (put-or-refuse o place (payload here) (read-from n (payload here) (suc place) (drop (place + 1) ws)))) (sym e)
 
     pub so-far-refused : (m : Misfit) → Some m ≡ member-misfit n last (kind here) (payload here) → read-list n ws ≡ Err (refused-at m place)
     so-far-refused m e = next (Some m) e

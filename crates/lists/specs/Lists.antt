@@ -36,16 +36,16 @@ member-misfit n last FalseNode a = Some NoForm
 member-misfit n last Link a = Some NoForm
 member-misfit n last Opening a = Some NoForm
 
--- goes on where no misfit is found, and refuses the word at the place else
-abbrev pub or-refuse : Option Misfit → ℕ → ℕ → Result (List ℕ) Refusal → Result (List ℕ) Refusal
-or-refuse None place a (Ok rest) = Ok (a ∷ rest)
-or-refuse None place a (Err f) = Err f
-or-refuse (Some m) place a rest = Err (refused-at m place)
+-- the atom of a word in front of what follows it, or the refusal of the word at the place
+abbrev pub put-or-refuse : Option Misfit → ℕ → ℕ → Result (List ℕ) Refusal → Result (List ℕ) Refusal
+put-or-refuse None place a (Ok rest) = Ok (a ∷ rest)
+put-or-refuse None place a (Err f) = Err f
+put-or-refuse (Some m) place a rest = Err (refused-at m place)
 
 -- the words from a place on, behind the atom `last`
 unfoldable pub read-from : ℕ → ℕ → ℕ → List ℕ → Result (List ℕ) Refusal
 read-from n last place [] = Ok []
-read-from n last place (w ∷ ws) = or-refuse (member-misfit n last (kind w) (payload w)) place (payload w) (read-from n (payload w) (suc place) ws)
+read-from n last place (w ∷ ws) = put-or-refuse (member-misfit n last (kind w) (payload w)) place (payload w) (read-from n (payload w) (suc place) ws)
 
 -- the atoms of a list, or the refusal of the first word at fault
 abbrev pub read-list : ℕ → List ℕ → Result (List ℕ) Refusal

@@ -1,5 +1,5 @@
 -- A program built up rule by rule and literal by literal. Assumes nothing.
-use mathlib.Core.Path.{_≡_, refl, sym, ap, ap₂, subst, _∙_}
+use mathlib.Core.Path.{_≡_, sym, ap, ap₂, subst, _∙_}
 use mathlib.Core.List.{List, [], _∷_, _++_, map}
 use mathlib.Core.Bool.{false}
 use mathlib.Core.Logic.{_⊎_, inl, inr, ⊎-elim}
@@ -15,7 +15,7 @@ use Rattle.rules.specs.Asked.{plus, minus, body, no-rule, rule-at, literal-at}
 use Rattle.rules.specs.Growing.{with-rule, longer, last-rule, with-literal, first-rules, last-of, before, rule-misfit, literal-misfit}
 use Rattle.rules.specs.declared.literal.Literal.{Literal}
 use Rattle.rules.proofs.Lookup.{cons-at, rule-inside}
-use Rattle.rules.proofs.Fits.{rule-free, literal-free, weight-append}
+use Rattle.rules.proofs.Fits.{last-from-zero, rule-free, literal-free, weight-append}
 
 pub at-place : (P : Program) (i : ℕ) → rule-at P (i + 1) ≡ getD (P .rules) i no-rule
 at-place P i = rule-inside P (i + 1) (omega arith) ∙ ap (λ k. getD (P .rules) k no-rule) (omega arith)
@@ -25,10 +25,6 @@ next-rises : (low high : ℕ) (xs : List ℕ) (k : ℕ) → Rising low high xs �
 next-rises low high [] k r h = absurd (omega arith)
 next-rises low high (x ∷ xs) zero r h = r .0
 next-rises low high (x ∷ xs) (suc k) r h = next-rises x high xs k (r .2) (omega arith)
-
-last-from-zero : (xs : List ℕ) → last-of (0 ∷ xs) ≡ last-of xs
-last-from-zero [] = refl
-last-from-zero (x ∷ xs) = refl
 
 pub next-high : (low high : ℕ) (xs : List ℕ) (k : ℕ) → Rising low high xs → k < length xs → getD xs k 0 ≤ high
 next-high low high [] k r h = absurd (omega arith)

@@ -103,6 +103,11 @@ above low high [] r h = absurd (omega arith)
 above low high (x ∷ []) r h = r .0
 above low high (x ∷ (y ∷ ys)) r h = omega (arith, above x high (y ∷ ys) (r .2) (omega arith))
 
+-- a list behind 0 ends as it ends by itself
+pub last-from-zero : (xs : List ℕ) → last-of (0 ∷ xs) ≡ last-of xs
+last-from-zero [] = refl
+last-from-zero (x ∷ xs) = refl
+
 pub rising-push : (low high : ℕ) (xs : List ℕ) (a : ℕ) → Rising low high xs → low < a → last-of xs < a → a ≤ high → Rising low high (xs ++ a ∷ [])
 rising-push low high [] a r l h m = (l, m, tt)
 rising-push low high (x ∷ []) a r l h m = (r .0, r .1, (h, m, tt))
@@ -120,15 +125,16 @@ longer-size r l = by-sign (l .positive) refl
     by-sign true e = simp (e, length-push) (omega arith)
     by-sign false e = simp (e, length-push) (omega arith)
 
-module _ (P : Program) (l : Literal) (f : LiteralFits P l) where
+module _ (P : Program) (l : Literal) (started : 0 < length (P .rules)) where
   at-last : last-rule P ≡ getD (P .rules) (length (P .rules) - 1) no-rule
-  at-last = rule-inside P (length (P .rules)) (omega (arith, f .started))
+  at-last = rule-inside P (length (P .rules)) (omega (arith, started))
 
   pub literal-weight : weight (with-literal P l .rules) ≡ weight (P .rules) + 1
-  literal-weight = omega (arith, weight-set (P .rules) (length (P .rules) - 1) (longer (last-rule P) l) (omega (arith, f .started)), ap body-size at-last, longer-size (last-rule P) l)
+  literal-weight = omega (arith, weight-set (P .rules) (length (P .rules) - 1) (longer (last-rule P) l) (omega (arith, started)), ap body-size at-last, longer-size (last-rule P) l)
 
+module _ (P : Program) (l : Literal) (f : LiteralFits P l) where
   last-over : Within P → RuleOver (P .atoms) (last-rule P)
-  last-over w = subst (RuleOver (P .atoms)) (sym at-last) (all-getD (RuleOver (P .atoms)) (P .rules) (length (P .rules) - 1) no-rule (omega (arith, f .started)) (w .over))
+  last-over w = subst (RuleOver (P .atoms)) (sym (at-last P l (f .started))) (all-getD (RuleOver (P .atoms)) (P .rules) (length (P .rules) - 1) no-rule (omega (arith, f .started)) (w .over))
 
   longer-over : RuleOver (P .atoms) (last-rule P) → RuleOver (P .atoms) (longer (last-rule P) l)
   longer-over s = by-sign (l .positive) refl
@@ -159,6 +165,6 @@ module _ (P : Program) (l : Literal) (f : LiteralFits P l) where
       record {
         few-atoms = w .few-atoms;
         few-rules = omega (arith, length-set (P .rules) (length (P .rules) - 1) r, w .few-rules);
-        light = omega (arith, literal-weight, f .light);
+        light = omega (arith, literal-weight P l (f .started), f .light);
         over = all-set (RuleOver (P .atoms)) (P .rules) (length (P .rules) - 1) r (longer-over (last-over w)) (w .over);
       }

@@ -197,7 +197,7 @@ module _ (bs : List ℕ) (a : ℕ) where
 
     literal-weighed : Weighed n es bs → Weighed n (set es i (longer-entry e positive)) (bs ++ a ∷ [])
     literal-weighed w =
-        omega (arith, ap (λ (p : Program). weight (p .rules)) literal-laid, literal-weight (laid-program n es bs) (record { atom = a; positive = positive }) f, length-set es i (longer-entry e positive), length-push bs a, w)
+        omega (arith, ap (λ (p : Program). weight (p .rules)) literal-laid, literal-weight (laid-program n es bs) (record { atom = a; positive = positive }) (f .started), length-set es i (longer-entry e positive), length-push bs a, w)
 
     pub literal-keeps : Weighed n es bs → ∥ Within (laid-program n es bs) ∥₁ → Laid n (set es i (longer-entry e positive)) (bs ++ a ∷ [])
     literal-keeps w k = record {

@@ -48,9 +48,9 @@ last-of [] = 0
 last-of (x ∷ []) = x
 last-of (x ∷ (y ∷ ys)) = last-of (y ∷ ys)
 
--- the first cause that applies
-abbrev pub unless : Bool → Misfit → Option Misfit → Option Misfit
-unless b m rest = cond b (Some m) rest
+-- a cause that is told where a test holds, before what else there is to tell
+abbrev pub cause-if : Bool → Misfit → Option Misfit → Option Misfit
+cause-if b m rest = cond b (Some m) rest
 
 -- an atom from 1 to n
 abbrev pub names : ℕ → ℕ → Bool
@@ -59,7 +59,7 @@ names n a = leb 1 a && leb a n
 -- why a rule with this head is not added
 abbrev pub rule-misfit : Program → ℕ → Option Misfit
 rule-misfit P h =
-    unless (leb max-rules (length (P .rules)) || leb max-size (weight (P .rules))) PastLimit
+    cause-if (leb max-rules (length (P .rules)) || leb max-size (weight (P .rules))) PastLimit
     (cond (names (P .atoms) h) None (Some OutOfRange))
 
 -- the last atom before l in its run
@@ -73,8 +73,8 @@ misplaced P l = leb (length (P .rules)) 0 || (l .positive && leb 1 (length (last
 -- why a literal is not added to the last rule
 abbrev pub literal-misfit : Program → Literal → Option Misfit
 literal-misfit P l =
-    unless (leb max-body (body-size (last-rule P)) || leb max-size (weight (P .rules))) PastLimit
-    (unless (misplaced P l) NoForm
+    cause-if (leb max-body (body-size (last-rule P)) || leb max-size (weight (P .rules))) PastLimit
+    (cause-if (misplaced P l) NoForm
     (cond (names (P .atoms) (l .atom)) (cond (leb (l .atom) (before (last-rule P) l)) (Some NotRising) None) (Some OutOfRange)))
 
 -- what was added to P: `grown` stands unless there is a misfit, or no memory, and P else

@@ -4,4 +4,5 @@ pub mod Props
 pub mod Asked
 pub mod Laid
 pub mod Growing
+pub mod Laws
 pub mod Tables

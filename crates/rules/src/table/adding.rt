@@ -10,6 +10,7 @@ ghost use Rattle.base.specs.Limits.{max-atoms};
 ghost use Rattle.base.specs.declared.misfit.Misfit.the-variants.{PastLimit};
 ghost use Rattle.rules.specs.Program.{weight};
 ghost use Rattle.rules.specs.Growing.{with-rule, with-literal, rule-misfit, literal-misfit, last-rule, last-of, before, Added};
+ghost use Rattle.rules.specs.Laws.{Rule-added-exactly-if-within, Literal-added-exactly-if-within};
 ghost use Rattle.rules.specs.Laid.{between, entry-rule, longer-entry, Ordered};
 ghost use Rattle.rules.specs.Tables.{program};
 use super::Entry;
@@ -55,7 +56,8 @@ impl RuleTable {
 
     // Adds a rule with an empty body behind the others.
     pub fn add_rule(&mut self, head: u32) -> Result<(), Rejection>
-        ensures { λ r. ⌜ Added (rule-misfit (program (now (self .entry))) head) (program (now (self .entry))) (with-rule (program (now (self .entry))) head) r (program (now (self .exit))) ⌝ }
+        ensures answer { λ r. ⌜ Added (rule-misfit (program (now (self .entry))) head) (program (now (self .entry))) (with-rule (program (now (self .entry))) head) r (program (now (self .exit))) ⌝ }
+        ensures law { λ _. ⌜ Rule-added-exactly-if-within ⌝ }
     {
         if let Some(misfit) = self.rule_misfit(head) {
             return Err(Rejection::Unfit(misfit));
@@ -68,7 +70,8 @@ impl RuleTable {
 
     // Adds a literal at the end of the last rule's body.
     pub fn add_literal(&mut self, literal: Literal) -> Result<(), Rejection>
-        ensures { λ r. ⌜ Added (literal-misfit (program (now (self .entry))) literal) (program (now (self .entry))) (with-literal (program (now (self .entry))) literal) r (program (now (self .exit))) ⌝ }
+        ensures answer { λ r. ⌜ Added (literal-misfit (program (now (self .entry))) literal) (program (now (self .entry))) (with-literal (program (now (self .entry))) literal) r (program (now (self .exit))) ⌝ }
+        ensures law { λ _. ⌜ Literal-added-exactly-if-within ⌝ }
     {
         if let Some(misfit) = self.literal_misfit(literal) {
             return Err(Rejection::Unfit(misfit));
