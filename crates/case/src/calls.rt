@@ -2,12 +2,13 @@
 ghost use mathlib.Core.Path.{_≡_};
 ghost use mathlib.Core.Logic.{_↔_};
 ghost use mathlib.Core.Bool.{true};
-ghost use Rattle.std.specs.Options.{mapped};
+ghost use Rattle.std.specs.Options.{Cases as BySome, mapped};
 ghost use Rattle.std.specs.Results.{isErr};
 ghost use Rattle.std.specs.Vec.{made};
 ghost use Rattle.std.specs.declared.option.Option.the-variants.{None};
 ghost use Rattle.std.specs.declared.result.Result.the-variants.{Ok};
 ghost use Rattle.base.specs.Sets.{has};
+ghost use Rattle.models.specs.Derives.{AnswerSet};
 ghost use Rattle.case.specs.Cases.{rules-of, plan-of};
 ghost use Rattle.case.specs.Calls.{Offered, IsPlan, after-offer, status-answer};
 use crate::Case;
@@ -69,9 +70,10 @@ impl Case {
         self.rules.atom_count()
     }
 
-    // The plan that stands.
+    // The plan that stands, which is an answer set of the rules.
     pub fn plan(&self) -> Option<AtomSet>
-        ensures { λ r. ⌜ mapped has r ≡ plan-of (now (self .entry)) ⌝ }
+        ensures answer { λ r. ⌜ mapped has r ≡ plan-of (now (self .entry)) ⌝ }
+        ensures law { λ r. ⌜ BySome r (Unit {0}) (λ plan. ∥ AnswerSet (rules-of (now (self .entry))) (has plan) ∥₁) ⌝ }
     {
         match self.standing {
             Standing::Nothing => None,
