@@ -2,11 +2,13 @@
 use mathlib.Core.Path.{_≡_}
 use mathlib.Core.List.{List, map}
 use mathlib.Core.Bool.{Bool, true, false}
-use Prim.Native.Nat.{ℕ}
+use Prim.Native.Nat.{ℕ, _+_, _*_, _≤_}
 use lib.Dec.{leb}
+use lib.ListN.{take}
 use Rattle.std.specs.declared.option.Option.the-variants.{Some}
 use Rattle.std.specs.declared.result.Result.{Result}
 use Rattle.std.specs.declared.result.Result.the-variants.{Ok, Err}
+use Rattle.base.specs.Limits.{max-atoms}
 use Rattle.base.specs.Sets.{has}
 use Rattle.base.specs.Words.{kind, payload}
 use Rattle.base.specs.declared.atoms.AtomSet.{AtomSet}
@@ -15,11 +17,11 @@ use Rattle.base.specs.declared.refusal.Refusal.{Refusal}
 use Rattle.rules.specs.Program.{Program}
 use Rattle.rules.specs.Growing.{cause-if}
 use Rattle.books.specs.Limits.{max-words}
-use Rattle.books.specs.Books.{opening-misfit, word-misfit}
-use Rattle.lists.specs.Lists.{member-misfit, among}
+use Rattle.books.specs.Books.{opening-misfit, word-misfit, read-book}
+use Rattle.lists.specs.Lists.{member-misfit, read-list, among}
 use Rattle.models.specs.Derives.{Atoms}
 use Rattle.case.specs.Calls.{Offered}
-use Rattle.texts.specs.Files.{broken-word}
+use Rattle.texts.specs.Files.{broken-word, words-of}
 use Rattle.texts.specs.Texts.{plan-report, refusal-line}
 
 -- the plan is reported
@@ -56,3 +58,12 @@ pub record Broken-word-fits-no-form : Type 0 where
   pub opening : opening-misfit (kind broken-word) (payload broken-word) ≡ Some NoForm
   pub later : (P : Program) (place : ℕ) → word-misfit P place broken-word ≡ cause-if (leb max-words place) PastLimit (Some NoForm)
   pub listed : (n last : ℕ) → member-misfit n last (kind broken-word) (payload broken-word) ≡ Some NoForm
+
+-- the bytes that are read of a file: one word more than a book may have
+abbrev pub file-bytes : ℕ
+file-bytes = 4 * (max-words + 1)
+
+-- what stands behind these bytes changes nothing of what a book or a plan reads as
+pub record Later-bytes-change-nothing : Type 0 where
+  pub book : (bytes : List ℕ) → read-book (words-of (take file-bytes bytes)) ≡ read-book (words-of bytes)
+  pub plan : (n : ℕ) → n ≤ max-atoms → (bytes : List ℕ) → read-list n (words-of (take file-bytes bytes)) ≡ read-list n (words-of bytes)

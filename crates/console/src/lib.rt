@@ -9,4 +9,5 @@ pub use commands::CommandPartialEq;
 pub use commands::HELP;
 pub use commands::command_of;
 pub use outcome::Outcome;
+pub use outcome::file_bytes;
 pub use outcome::judge_files;

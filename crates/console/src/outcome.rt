@@ -10,11 +10,12 @@ ghost use Rattle.books.specs.Books.{read-book};
 ghost use Rattle.models.specs.Derives.{Atoms};
 ghost use Rattle.case.specs.Cases.{rules-of, plan-of};
 ghost use Rattle.texts.specs.Files.{words-of};
-ghost use Rattle.console.specs.Outcomes.{Told, ToldPlan, Reported, Refusing, Broken-word-fits-no-form};
+ghost use Rattle.console.specs.Outcomes.{Told, ToldPlan, Reported, Refusing, Broken-word-fits-no-form, file-bytes, Later-bytes-change-nothing};
 use base::LoadError;
 use base::Refusal;
 use books::Book;
 use books::BookSource;
+use books::MAX_WORDS;
 use case::Case;
 use rules::RuleSource;
 use std::alloc::AllocError;
@@ -30,10 +31,17 @@ pub struct Outcome {
     pub text: String,
 }
 
+// How many bytes of a file are read: later ones would change no answer.
+pub fn file_bytes() -> usize
+    ensures { λ r. ⌜ r ≡ file-bytes ⌝ }
+{
+    4 * (MAX_WORDS + 1)
+}
+
 // Loads the words of a book and offers those of a plan: the report on the plan, or the first refusal.
 pub fn judge_files(heap: Global, book: &[u8], plan: &[u8]) -> Result<Outcome, AllocError>
     ensures answer { λ r. ⌜ made r (λ o. Told (read-book (words-of (now (book .entry)))) (words-of (now (plan .entry))) (o .passed) (string-bytes (o .text))) ⌝ }
-    ensures law { λ _. ⌜ Broken-word-fits-no-form ⌝ }
+    ensures law { λ _. ⌜ Broken-word-fits-no-form × Later-bytes-change-nothing ⌝ }
 {
     let words = words_of(heap, book)?;
     let mut rules = Book::new(heap);

@@ -2,6 +2,7 @@
 use console::Command;
 use console::HELP;
 use console::command_of;
+use console::file_bytes;
 use console::judge_files;
 use std::env;
 use std::error::AnyError;
@@ -9,9 +10,6 @@ use std::fs::File;
 use std::io;
 use std::io::ErrorKind;
 use std::io::Read;
-
-// Words of a file beyond these change no answer: a book ends by its 8,193rd word, a plan before it.
-const MOST_BYTES: usize = 4 * 8193;
 
 fn main(rt: LibcRuntime) -> Result<(), AnyError> {
     match run(&rt) {
@@ -73,14 +71,15 @@ fn open_and_read(rt: &LibcRuntime, path: &str) -> io::Result<Vec<u8>> {
 }
 
 fn read_some(rt: &LibcRuntime, file: &mut File) -> io::Result<Vec<u8>> {
+    let most = file_bytes();
     let mut bytes = Vec::new(rt.alloc());
     // Each turn but the last brings a byte, so these are enough.
-    for _ in 0..MOST_BYTES {
-        if read_part(file, &mut bytes)? == 0 || bytes.len() >= MOST_BYTES {
+    for _ in 0..most {
+        if read_part(file, &mut bytes)? == 0 || bytes.len() >= most {
             break;
         }
     }
-    bytes.truncate(MOST_BYTES);
+    bytes.truncate(most);
     Ok(bytes)
 }
 
