@@ -4,6 +4,8 @@ mod asked;
 #[cfg(test)]
 mod atoms;
 #[cfg(test)]
+mod files;
+#[cfg(test)]
 mod fixtures;
 #[cfg(test)]
 mod limits;
