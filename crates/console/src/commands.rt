@@ -15,17 +15,15 @@ docs/FORMATS.md has the formats, and what each number and value means.
 
 #[derive(Clone, Copy, PartialEq, Eq, Debug)]
 pub enum Command {
-    Judge,
     Help,
     Unknown,
 }
 
-// What is asked by the word behind the program's name, or by none.
+// What an argument asks for.
 pub fn command_of(word: &str) -> Command
     ensures { λ r. ⌜ Asks (now (word .entry)) r ⌝ }
 {
     match word {
-        "" => Command::Judge,
         "--help" | "-h" => Command::Help,
         _ => Command::Unknown,
     }

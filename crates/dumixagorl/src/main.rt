@@ -33,7 +33,6 @@ fn run(rt: &LibcRuntime) -> Result<bool, AnyError> {
         return Err("too many arguments; try --help".into());
     }
     match command_of(word.as_str()) {
-        Command::Judge => judge(rt),
         Command::Help => {
             rt.print(HELP)?;
             Ok(true)
