@@ -1,5 +1,1 @@
-pub mod Rising
-pub mod Bitset
-pub mod Sets
 pub mod WordForms
-pub mod Iterating

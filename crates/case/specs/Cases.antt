@@ -1,7 +1,7 @@
 -- The rules of a case and the plan that stands in it. Assumes nothing.
 use Rattle.std.specs.declared.option.Option.{Option}
 use Rattle.std.specs.declared.option.Option.the-variants.{Some, None}
-use Rattle.base.specs.Sets.{has}
+use Rattle.sets.specs.Sets.{has}
 use Rattle.rules.specs.Program.{Program}
 use Rattle.rules.specs.Tables.{program}
 use Rattle.models.specs.Derives.{Atoms}

@@ -1,5 +1,5 @@
 -- What stands in a case, and what it promises. Assumes nothing.
-use Rattle.base.specs.Sets.{has}
+use Rattle.sets.specs.Sets.{has}
 use Rattle.rules.specs.Program.{Program}
 use Rattle.models.specs.Derives.{AnswerSet}
 use Rattle.case.specs.declared.standing.Standing.{Standing}

@@ -1,5 +1,5 @@
 // What stands in a case.
-use base::AtomSet;
+use sets::AtomSet;
 
 #[derive(Clone, Copy)]
 pub(crate) enum Standing {

@@ -8,10 +8,10 @@ use lib.ListN.{take}
 use Rattle.std.specs.declared.option.Option.the-variants.{Some}
 use Rattle.std.specs.declared.result.Result.{Result}
 use Rattle.std.specs.declared.result.Result.the-variants.{Ok, Err}
-use Rattle.base.specs.Limits.{max-atoms}
-use Rattle.base.specs.Sets.{has}
+use Rattle.sets.specs.Limits.{max-atoms}
+use Rattle.sets.specs.Sets.{has}
 use Rattle.base.specs.Words.{kind, payload}
-use Rattle.base.specs.declared.atoms.AtomSet.{AtomSet}
+use Rattle.sets.specs.declared.set.AtomSet.{AtomSet}
 use Rattle.base.specs.declared.misfit.Misfit.the-variants.{NoForm, PastLimit}
 use Rattle.base.specs.declared.refusal.Refusal.{Refusal}
 use Rattle.rules.specs.Program.{Program}

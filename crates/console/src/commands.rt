@@ -13,7 +13,7 @@ with + (in) or - (out). Anything else is refused by a line such as `refused 5 at
 docs/FORMATS.md has the formats, and what each number and value means.
 ";
 
-#[derive(Clone, Copy, PartialEq, Eq, Debug)]
+#[derive(Clone, Copy)]
 pub enum Command {
     Help,
     Unknown,

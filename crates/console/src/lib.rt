@@ -3,9 +3,6 @@ mod commands;
 mod outcome;
 
 pub use commands::Command;
-pub use commands::CommandDebug;
-pub use commands::CommandEq;
-pub use commands::CommandPartialEq;
 pub use commands::HELP;
 pub use commands::command_of;
 pub use outcome::Outcome;

@@ -6,22 +6,22 @@ use Prim.Native.Nat.{ℕ, suc, _+_, _≤_, _<_}
 use native.Mathlib.Omega.{arith}
 use lib.Dec.{eqb}
 use lib.ListN.{length, getD, take, drop}
-use Rattle.base.specs.Limits.{max-atoms}
+use Rattle.sets.specs.Limits.{max-atoms}
 use Rattle.std.specs.declared.option.Option.{Option}
 use Rattle.std.specs.declared.option.Option.the-variants.{Some, None}
 use Rattle.std.specs.declared.result.Result.{Result}
 use Rattle.std.specs.declared.result.Result.the-variants.{Ok, Err}
 use Rattle.std.proofs.shelf.Lists.{append-nil, append-assoc, drop-more, drop-all, map-more}
 use Rattle.std.proofs.shelf.Ways.{tells}
-use Rattle.base.specs.Sets.{is-atom, has}
+use Rattle.sets.specs.Sets.{is-atom, has}
 use Rattle.base.specs.Words.{kind, payload}
 use Rattle.base.specs.Refusals.{refused-at}
-use Rattle.base.specs.declared.atoms.AtomSet.{AtomSet}
+use Rattle.sets.specs.declared.set.AtomSet.{AtomSet}
 use Rattle.base.specs.declared.words.Kind.{Kind}
 use Rattle.base.specs.declared.words.Kind.the-variants.{Head, Positive, Negative, Member, TrueNode, FalseNode, Link, Opening}
 use Rattle.base.specs.declared.misfit.Misfit.{Misfit}
 use Rattle.base.specs.declared.refusal.Refusal.{Refusal}
-use Rattle.base.proofs.Sets.{is-atom-from}
+use Rattle.sets.proofs.Sets.{is-atom-from}
 use Rattle.lists.specs.Lists.{member-misfit, put-or-refuse, read-from, read-list, among, ListRead}
 use Rattle.lists.proofs.Among.{among-push}
 

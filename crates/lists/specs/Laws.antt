@@ -5,7 +5,7 @@ use mathlib.Core.List.{List, _++_}
 use Prim.Native.Nat.{ℕ, _+_, _≤_, _<_}
 use lib.ListN.{length, take}
 use Rattle.std.specs.declared.result.Result.the-variants.{Ok, Err}
-use Rattle.base.specs.Limits.{max-atoms}
+use Rattle.sets.specs.Limits.{max-atoms}
 use Rattle.base.specs.Words.{Words}
 use Rattle.base.specs.Refusals.{value-of}
 use Rattle.base.specs.declared.refusal.Refusal.{Refusal}

@@ -8,10 +8,10 @@ use Rattle.std.specs.declared.option.Option.{Option}
 use Rattle.std.specs.declared.option.Option.the-variants.{Some, None}
 use Rattle.std.specs.declared.result.Result.{Result}
 use Rattle.std.specs.declared.result.Result.the-variants.{Ok, Err}
-use Rattle.base.specs.Sets.{has}
+use Rattle.sets.specs.Sets.{has}
 use Rattle.base.specs.Words.{kind, payload, word}
 use Rattle.base.specs.Refusals.{refused-at}
-use Rattle.base.specs.declared.atoms.AtomSet.{AtomSet}
+use Rattle.sets.specs.declared.set.AtomSet.{AtomSet}
 use Rattle.base.specs.declared.words.Kind.{Kind}
 use Rattle.base.specs.declared.words.Kind.the-variants.{Head, Positive, Negative, Member, TrueNode, FalseNode, Link, Opening}
 use Rattle.base.specs.declared.misfit.Misfit.{Misfit}

@@ -1,17 +1,17 @@
 // Reads a plan or a hold list word by word.
 ghost use mathlib.Core.Path.{_≡_};
 ghost use Prim.Native.Nat.{min};
-ghost use Rattle.base.specs.Limits.{max-atoms};
+ghost use Rattle.sets.specs.Limits.{max-atoms};
 ghost use Rattle.base.specs.Words.{kind, payload};
 ghost use Rattle.lists.specs.Lists.{member-misfit, read-list, ListRead};
 ghost use Rattle.lists.specs.Laws.{Taken-exactly-if-rising, Refused-where-no-list-goes-on};
-use base::AtomSet;
 use base::Kind;
-use base::MAX_ATOMS;
 use base::Misfit;
 use base::Refusal;
 use base::kind_of;
 use base::payload_of;
+use sets::AtomSet;
+use sets::MAX_ATOMS;
 
 // The set of the atoms on a list over the atoms 1 to `atoms`, of which a set holds the first 1,024.
 pub fn read_list(words: &[u32], atoms: u32) -> Result<AtomSet, Refusal>

@@ -4,7 +4,7 @@ use mathlib.Core.List.{List}
 use Prim.Native.Nat.{ℕ, _+_, _≤_, _<_}
 use lib.ListN.{length, getD}
 use Rattle.rules.specs.Limits.{max-size}
-use Rattle.base.specs.Limits.{max-atoms}
+use Rattle.sets.specs.Limits.{max-atoms}
 use Rattle.rules.specs.Program.{_∈_, Program}
 use Rattle.rules.specs.Asked.{rule-at}
 use Rattle.models.specs.declared.occurrences.Occurrences.{Occurrences}

@@ -5,10 +5,10 @@ use mathlib.Core.List.{List, [], _∷_}
 use mathlib.Core.Bool.{Bool, true, not, _&&_}
 use Prim.Native.Nat.{ℕ, _+_, _≤_, _<_}
 use lib.ListN.{length, getD}
-use Rattle.base.specs.Limits.{max-atoms}
-use Rattle.base.specs.Sets.{has, size}
+use Rattle.sets.specs.Limits.{max-atoms}
+use Rattle.sets.specs.Sets.{has, size}
 use Rattle.base.specs.Stacks.{items, room}
-use Rattle.base.specs.declared.atoms.AtomSet.{AtomSet}
+use Rattle.sets.specs.declared.set.AtomSet.{AtomSet}
 use Rattle.base.specs.declared.stack.Stack.{Stack}
 use Rattle.rules.specs.Program.{_∈_, Rule, Program}
 use Rattle.rules.specs.Asked.{rule-at}

@@ -2,8 +2,8 @@
 ghost use mathlib.Core.Path.{_≡_};
 ghost use Prim.Native.Nat.{ℕ, _+_, _≤_, _<_};
 ghost use lib.ListN.{length};
-ghost use Rattle.base.specs.Limits.{max-atoms};
-ghost use Rattle.base.specs.Sets.{has, size};
+ghost use Rattle.sets.specs.Limits.{max-atoms};
+ghost use Rattle.sets.specs.Sets.{has, size};
 ghost use Rattle.base.specs.Stacks.{items};
 ghost use Rattle.rules.specs.Asked.{rule-at};
 ghost use Rattle.models.specs.Derives.{In, Derives, Exactly};
@@ -12,10 +12,10 @@ ghost use Rattle.models.specs.Chains.{Sane};
 ghost use Rattle.models.specs.Following.{State, Step, Done, Following};
 use crate::firing::fires;
 use crate::occurrences::Occurrences;
-use base::AtomSet;
-use base::MAX_ATOMS;
 use base::Stack;
 use rules::RuleSource;
+use sets::AtomSet;
+use sets::MAX_ATOMS;
 
 // An atom waits at most once.
 const WAITING_PLACES: usize = MAX_ATOMS as usize;

@@ -1,10 +1,10 @@
 // Whether the body of a rule holds.
 ghost use mathlib.Core.Path.{_≡_};
-ghost use Rattle.base.specs.Sets.{has};
+ghost use Rattle.sets.specs.Sets.{has};
 ghost use Rattle.rules.specs.Asked.{rule-at};
 ghost use Rattle.models.specs.Following.{firing};
-use base::AtomSet;
 use rules::RuleSource;
+use sets::AtomSet;
 
 // Whether the positive atoms of a rule are all found and its negative ones are not blocked.
 pub(crate) fn fires<S: RuleSource>(

@@ -4,14 +4,14 @@ ghost use mathlib.Core.Logic.{_↔_};
 ghost use Prim.Native.Nat.{ℕ};
 ghost use Rattle.std.specs.Options.{Cases as BySome};
 ghost use Rattle.std.specs.declared.result.Result.the-variants.{Ok};
-ghost use Rattle.base.specs.Sets.{has, Least};
+ghost use Rattle.sets.specs.Sets.{has, Least};
 ghost use Rattle.models.specs.Derives.{AnswerSet};
 ghost use Rattle.models.specs.Judging.{Unsatisfied, Judged};
 use crate::derive;
 use crate::firing::fires;
-use base::AtomSet;
 use base::Refusal;
 use rules::RuleSource;
+use sets::AtomSet;
 
 // Passes an answer set of the source's rules, and tells of any other set why it is none.
 pub fn judge<S: RuleSource>(source: &S, plan: &AtomSet) -> Result<(), Refusal>

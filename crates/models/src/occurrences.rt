@@ -2,13 +2,13 @@
 ghost use mathlib.Core.Path.{_≡_};
 ghost use Prim.Native.Nat.{ℕ, _+_, _≤_, _<_};
 ghost use lib.ListN.{length, take};
-ghost use Rattle.base.specs.Limits.{max-atoms};
+ghost use Rattle.sets.specs.Limits.{max-atoms};
 ghost use Rattle.rules.specs.Limits.{max-rules, max-size};
 ghost use Rattle.rules.specs.Program.{weight};
 ghost use Rattle.models.specs.Chains.{Listed, Sane, Indexed};
-use base::MAX_ATOMS;
 use rules::MAX_SIZE;
 use rules::RuleSource;
+use sets::MAX_ATOMS;
 
 // A place for each atom and for each body atom of the largest source, and one that stands for none.
 const ATOM_PLACES: usize = MAX_ATOMS as usize + 1;

@@ -6,7 +6,7 @@ use mathlib.Core.Logic.{⊎-elim, ∥∥₁-map}
 use Prim.Native.Nat.{ℕ, suc, _+_, _-_, _≤_, _<_}
 use native.Mathlib.Omega.{arith}
 use lib.ListN.{length, getD, set, take, drop}
-use Rattle.base.specs.Limits.{max-atoms}
+use Rattle.sets.specs.Limits.{max-atoms}
 use Rattle.std.proofs.shelf.Lists.{drop-take, drop-append-le, take-append-le, take-all, length-push, length-set, length-take-le, map-set, map-push, getD-append-left, getD-push, getD-set-same, getD-set-other}
 use Rattle.std.proofs.shelf.Tests.{cases-eq}
 use Rattle.rules.specs.Program.{Rule, Program, weight, Within}

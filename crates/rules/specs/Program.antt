@@ -5,7 +5,7 @@ use mathlib.Core.List.{List, [], _∷_}
 use Prim.Native.Nat.{ℕ, _+_, _≤_, _<_}
 use lib.ListN.{length}
 use Rattle.std.specs.shelf.Lists.{All}
-use Rattle.base.specs.Limits.{max-atoms}
+use Rattle.sets.specs.Limits.{max-atoms}
 use Rattle.rules.specs.Limits.{max-rules, max-body, max-size}
 
 infix 4 _∈_

@@ -1,8 +1,8 @@
 // The limits that every rule source keeps.
 ghost use mathlib.Core.Path.{_≡_};
-ghost use Rattle.base.specs.Limits.{max-atoms};
+ghost use Rattle.sets.specs.Limits.{max-atoms};
 ghost use Rattle.rules.specs.Limits.{max-rules, max-body, max-size};
-use base::MAX_ATOMS;
+use sets::MAX_ATOMS;
 
 pub const MAX_RULES: usize = 4096;
 
@@ -12,7 +12,7 @@ pub const MAX_BODY: usize = 64;
 // Rules plus body atoms.
 pub const MAX_SIZE: usize = 8192;
 
-#[derive(Clone, Copy, PartialEq, Eq, Debug)]
+#[derive(Clone, Copy)]
 pub struct Limits {
     pub atoms: u32,
     pub rules: usize,

@@ -1,5 +1,5 @@
 // One atom of a rule's body, with its sign.
-#[derive(Clone, Copy, PartialEq, Eq, Debug)]
+#[derive(Clone, Copy)]
 pub struct Literal {
     pub atom: u32,
     pub positive: bool,

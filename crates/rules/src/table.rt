@@ -11,9 +11,6 @@ ghost use Rattle.rules.specs.Program.{Within, weight};
 ghost use Rattle.rules.specs.Laid.{laid-program, no-entry, Ordered};
 pub use asking::TableSource;
 use base::Misfit;
-use base::MisfitDebug;
-use base::MisfitEq;
-use base::MisfitPartialEq;
 
 // A rule: its head, and where in the body atoms of all rules its own begin, its negative ones begin, and its own end.
 #[derive(Clone, Copy)]
@@ -36,7 +33,7 @@ pub struct RuleTable {
 }
 
 // Why a rule or a literal was not added.
-#[derive(Clone, Copy, PartialEq, Eq, Debug)]
+#[derive(Clone, Copy)]
 pub enum Rejection {
     Unfit(Misfit),
     OutOfMemory,

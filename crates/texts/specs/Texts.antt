@@ -4,9 +4,9 @@ use mathlib.Core.Bool.{Bool, cond}
 use Prim.Native.Nat.{ℕ, zero, suc, _*_, _/_}
 use lib.Chars.{codes}
 use Rattle.std.specs.Written.{decimal}
-use Rattle.base.specs.Sets.{has, size}
+use Rattle.sets.specs.Sets.{has, size}
 use Rattle.base.specs.Refusals.{number-of, value-of}
-use Rattle.base.specs.declared.atoms.AtomSet.{AtomSet}
+use Rattle.sets.specs.declared.set.AtomSet.{AtomSet}
 use Rattle.base.specs.declared.refusal.Refusal.{Refusal}
 
 -- how much of n the count is, in whole percent rounded down, and 0 of nothing

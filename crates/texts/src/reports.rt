@@ -2,10 +2,10 @@
 ghost use mathlib.Core.Path.{_≡_};
 ghost use Rattle.std.specs.Of.String.{string-bytes};
 ghost use Rattle.std.specs.Vec.{made};
-ghost use Rattle.base.specs.Sets.{has};
+ghost use Rattle.sets.specs.Sets.{has};
 ghost use Rattle.texts.specs.Texts as texts;
-use base::AtomSet;
 use base::Refusal;
+use sets::AtomSet;
 use std::alloc::AllocError;
 use std::alloc::Global;
 

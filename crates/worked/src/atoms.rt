@@ -1,6 +1,6 @@
 // Sets of atoms, at the ends of their words.
-use base::AtomSet;
-use base::MembersIterator;
+use sets::AtomSet;
+use sets::MembersIterator;
 use std::test::*;
 
 fn ends() -> AtomSet {

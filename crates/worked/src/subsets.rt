@@ -2,10 +2,10 @@
 use crate::fixtures::book_of;
 use crate::fixtures::case_of;
 use crate::fixtures::member;
-use base::AtomSet;
 use base::LoadErrorDebug;
 use books::BookSource;
 use models::derive;
+use sets::AtomSet;
 use std::alloc::AllocError;
 use std::alloc::Global;
 use std::test::*;

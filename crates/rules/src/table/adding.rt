@@ -6,7 +6,7 @@ ghost use lib.ListN.{length};
 ghost use Rattle.std.specs.declared.option.Option.the-variants.{None};
 ghost use Rattle.std.specs.Of.Vec.{vec-items};
 ghost use Rattle.std.specs.Results.{Cases as ByOk};
-ghost use Rattle.base.specs.Limits.{max-atoms};
+ghost use Rattle.sets.specs.Limits.{max-atoms};
 ghost use Rattle.base.specs.declared.misfit.Misfit.the-variants.{PastLimit};
 ghost use Rattle.rules.specs.Program.{weight};
 ghost use Rattle.rules.specs.Growing.{with-rule, with-literal, rule-misfit, literal-misfit, last-rule, last-of, before, Added};
@@ -20,8 +20,8 @@ use crate::Literal;
 use crate::MAX_BODY;
 use crate::MAX_RULES;
 use crate::MAX_SIZE;
-use base::MAX_ATOMS;
 use base::Misfit;
+use sets::MAX_ATOMS;
 use std::alloc::AllocError;
 use std::alloc::Global;
 

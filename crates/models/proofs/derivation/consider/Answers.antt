@@ -7,9 +7,9 @@ use native.Mathlib.Omega.{arith}
 use lib.ListN.{length}
 use Rattle.std.proofs.shelf.Lists.{length-push}
 use Rattle.std.proofs.shelf.Tests.{and-cases, not-false, false≢true, lt-ltb}
-use Rattle.base.specs.Sets.{is-atom, has, size}
+use Rattle.sets.specs.Sets.{is-atom, has, size}
 use Rattle.base.specs.Stacks.{items, room}
-use Rattle.base.proofs.Sets.{is-atom-from, size-most}
+use Rattle.sets.proofs.Sets.{is-atom-from, size-most}
 use Rattle.rules.specs.Program.{_∈_, Program, Within}
 use Rattle.rules.specs.Asked.{rule-at}
 use Rattle.rules.proofs.Copied.{this-over}

@@ -6,9 +6,9 @@ use native.Mathlib.Omega.{arith}
 use lib.ListN.{length}
 use Rattle.std.proofs.shelf.Lists.{length-push, nil-from-length}
 use Rattle.std.proofs.shelf.Tests.{ltb-false}
-use Rattle.base.specs.Sets.{has}
+use Rattle.sets.specs.Sets.{has}
 use Rattle.base.specs.Stacks.{items}
-use Rattle.base.proofs.Sets.{has-high, size-most}
+use Rattle.sets.proofs.Sets.{has-high, size-most}
 use Rattle.rules.specs.Program.{_∈_}
 use Rattle.rules.specs.Asked.{rule-at}
 use Rattle.models.specs.Following.{Done}

@@ -1,7 +1,7 @@
 use Prim.Native.Nat.{ℕ, _+_, _-_, _<_}
 use lib.ListN.{length}
-use Rattle.base.specs.Limits.{max-atoms}
-use Rattle.base.specs.Sets.{has, size}
+use Rattle.sets.specs.Limits.{max-atoms}
+use Rattle.sets.specs.Sets.{has, size}
 use Rattle.base.specs.Stacks.{items}
 use Rattle.rules.specs.Asked.{rule-at}
 use Rattle.models.specs.Following.{State, Done}

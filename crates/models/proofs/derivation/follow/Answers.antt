@@ -1,6 +1,6 @@
 use mathlib.Core.Path.{refl}
 use native.Mathlib.Omega.{arith}
-use Rattle.base.specs.Sets.{has}
+use Rattle.sets.specs.Sets.{has}
 use Rattle.base.specs.Stacks.{items}
 use Rattle.models.proofs.Follows.{ahead-step, chain-end}
 use Rattle.models.proofs.derivation.follow.Needs as need

@@ -1,7 +1,7 @@
 use mathlib.Core.Path.{_≡_}
 use Prim.Native.Nat.{_+_, _≤_}
 use lib.ListN.{length}
-use Rattle.base.specs.Sets.{has, size}
+use Rattle.sets.specs.Sets.{has, size}
 use Rattle.base.specs.Stacks.{items}
 use Rattle.models.specs.Following.{State, DoneOrAhead}
 use Rattle.models.proofs.derivation.follow.Given as given

@@ -1,7 +1,7 @@
 use Prim.Native.Nat.{_+_}
 use borrow.Author.Count.{below-more}
 use native.Mathlib.Omega.{arith}
-use Rattle.base.specs.Sets.{has}
+use Rattle.sets.specs.Sets.{has}
 use Rattle.base.specs.Stacks.{items}
 use Rattle.rules.specs.Asked.{rule-at}
 use Rattle.models.specs.Following.{Done}

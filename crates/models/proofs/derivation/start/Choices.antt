@@ -1,5 +1,5 @@
 use Prim.Native.Nat.{ℕ, _+_, _<_}
-use Rattle.base.specs.Sets.{has}
+use Rattle.sets.specs.Sets.{has}
 use Rattle.base.specs.Stacks.{items}
 use Rattle.rules.specs.Asked.{rule-at}
 use Rattle.models.specs.Following.{State, Done}

@@ -1,7 +1,7 @@
 use mathlib.Core.Path.{_≡_, sym, ap, _∙_}
 use mathlib.Core.Bool.{Bool, true, false, not, cond}
 use native.Mathlib.Omega.{arith}
-use Rattle.base.specs.Sets.{has}
+use Rattle.sets.specs.Sets.{has}
 use Rattle.rules.specs.Asked.{rule-at}
 use Rattle.models.specs.Derives.{Atoms}
 use Rattle.rules.specs.declared.literal.Literal.{Literal}

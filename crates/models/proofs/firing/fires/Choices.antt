@@ -1,6 +1,6 @@
 use mathlib.Core.Path.{_≡_}
 use lib.ListN.{drop}
-use Rattle.base.specs.Sets.{has}
+use Rattle.sets.specs.Sets.{has}
 use Rattle.rules.specs.Asked.{rule-at, body}
 use Rattle.models.specs.Following.{firing}
 use Rattle.models.proofs.Bodies.{all-pass}

@@ -1,7 +1,7 @@
 use mathlib.Core.Path.{sym, ap, _∙_}
 use Prim.Native.Nat.{_+_}
 use native.Mathlib.Omega.{arith}
-use Rattle.base.specs.Sets.{has}
+use Rattle.sets.specs.Sets.{has}
 use Rattle.rules.specs.Asked.{rule-at}
 use Rattle.models.proofs.Verdicts.{not-satisfied, satisfied-idle, none-first, none-next, none-all}
 use Rattle.models.proofs.judging.first_unsatisfied.Needs as need

@@ -1,4 +1,4 @@
-use Rattle.base.specs.Sets.{has}
+use Rattle.sets.specs.Sets.{has}
 use Rattle.models.proofs.Verdicts.{NoneUpTo}
 use Rattle.models.proofs.judging.first_unsatisfied.Given as given
 

@@ -1,5 +1,5 @@
 use Rattle.std.specs.declared.result.Result.the-variants.{Ok, Err}
-use Rattle.base.specs.Sets.{has}
+use Rattle.sets.specs.Sets.{has}
 use Rattle.base.specs.declared.refusal.Refusal.the-variants.{RuleNotSatisfied}
 use Rattle.models.specs.Derives.{AnswerSet}
 use Rattle.models.specs.Judging.{Judged}

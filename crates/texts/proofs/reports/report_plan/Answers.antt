@@ -1,5 +1,5 @@
 use Rattle.std.specs.Of.String.{string-bytes}
-use Rattle.base.specs.Sets.{has, size}
+use Rattle.sets.specs.Sets.{has, size}
 use Rattle.texts.specs.Texts.{headline}
 use Rattle.texts.proofs.Reporting.{lines-more}
 use Rattle.texts.proofs.reports.report_plan.Needs as need

@@ -1,7 +1,7 @@
 use mathlib.Core.Path.{_≡_}
 use mathlib.Core.List.{_++_}
 use Rattle.std.specs.Of.String.{string-bytes}
-use Rattle.base.specs.Sets.{has, size}
+use Rattle.sets.specs.Sets.{has, size}
 use Rattle.texts.specs.Texts.{headline, atom-lines}
 use Rattle.texts.proofs.reports.report_plan.Given as given
 

@@ -1,0 +1,4 @@
+pub mod Rising
+pub mod Bitset
+pub mod Sets
+pub mod Iterating
