@@ -12,7 +12,8 @@ use Rattle.rules.specs.Program.{_∈_, Rule, Program, body-size, Within}
 use Rattle.rules.specs.Asked.{plus, body, rule-at}
 use Rattle.rules.specs.declared.literal.Literal.{Literal}
 use Rattle.rules.proofs.Copied.{literal-cases, this-over, next-high, weights, weight-more}
-use Rattle.models.specs.Chains.{Listed}
+use Rattle.models.specs.Chains.{Listed, Indexed}
+use Rattle.models.specs.declared.occurrences.Occurrences.{Occurrences}
 use Rattle.models.proofs.Lists.{in-parts}
 use Rattle.models.proofs.occurrences.Occurrences.enter.Needs as need
 
@@ -42,6 +43,12 @@ module _ (r : Rule) (k : ℕ) (l : Literal) (read : l ≡ getD (plus 0 ∷ body 
       let low : k < length (rule-at P (i + 1) .pos) = omega (arith, p .0, ap (λ (q : Rule). length (q .pos)) e) in
       omega (arith, p .1, same, next-high 0 (P .atoms) (rule-at P (i + 1) .pos) k (over .pos-rises) low)
 
+-- a rule whose first k positive atoms are entered, if these are all, is entered
+all-entered : (P : Program) (o : Occurrences) (i k : ℕ) → length (rule-at P (i + 1) .pos) ≤ k → Indexed P i o → ((a : ℕ) → a ∈ take k (rule-at P (i + 1) .pos) → Listed o i a) → Indexed P (i + 1) o
+all-entered P o i k past before here =
+    below-more (λ j. (a : ℕ) → a ∈ rule-at P (j + 1) .pos → Listed o j a) i before
+    (λ a m. here a (subst (λ xs. a ∈ xs) (sym (take-all k (rule-at P (i + 1) .pos) past)) m))
+
 pub loop-k-holds : need.loop-k-holds
 loop-k-holds g c = (c .pre .sane, c .pre .indexed, (λ a m. absurd m), omega arith)
 
@@ -59,13 +66,11 @@ pub returns-then-not-literal : need.returns-then-not-literal
 returns-then-not-literal g c =
     let P = g .S·RuleSource .meaning (c .args .source .now) in
     let i = c .args .count in
-    let r = rule-at P (i + 1) in
     let k = c .loop-k .k in
-    let past = negative-one r k (c .literal-literal .result) (c .literal-literal .ensures) (omega arith) (not-true (c .literal-literal .result .positive) (c .if-not-literal .taken)) in
-    let all : take k (r .pos) ≡ r .pos = take-all k (r .pos) past in
+    let past = negative-one (rule-at P (i + 1)) k (c .literal-literal .result) (c .literal-literal .ensures) (omega arith) (not-true (c .literal-literal .result .positive) (c .if-not-literal .taken)) in
     record {
       sane = c .loop-k .inv .0;
-      indexed = below-more (λ j. (a : ℕ) → a ∈ rule-at P (j + 1) .pos → Listed (c .loop-k .self) j a) i (c .loop-k .inv .1) (λ a m. c .loop-k .inv .2 a (subst (λ xs. a ∈ xs) (sym all) m));
+      indexed = all-entered P (c .loop-k .self) i k past (c .loop-k .inv .1) (c .loop-k .inv .2);
       used = omega (arith, c .loop-k .inv .3, weight-more P i (c .pre .within .0));
     }
 
@@ -92,11 +97,8 @@ pub returns : need.returns
 returns g c =
     let P = g .S·RuleSource .meaning (c .args .source .now) in
     let i = c .args .count in
-    let r = rule-at P (i + 1) in
-    let k = c .loop-k .k in
-    let all : take k (r .pos) ≡ r .pos = take-all k (r .pos) (omega arith) in
     record {
       sane = c .loop-k .inv .0;
-      indexed = below-more (λ j. (a : ℕ) → a ∈ rule-at P (j + 1) .pos → Listed (c .loop-k .self) j a) i (c .loop-k .inv .1) (λ a m. c .loop-k .inv .2 a (subst (λ xs. a ∈ xs) (sym all) m));
+      indexed = all-entered P (c .loop-k .self) i (c .loop-k .k) (omega arith) (c .loop-k .inv .1) (c .loop-k .inv .2);
       used = omega (arith, c .loop-k .inv .3, weight-more P i (c .pre .within .0));
     }
