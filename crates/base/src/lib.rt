@@ -1,4 +1,6 @@
 // What every layer above stands on: words, refusals and the waiting list.
+#![tactic(auto)]
+
 mod loading;
 mod misfit;
 mod refusal;

@@ -1,4 +1,6 @@
 // Rule books: rule sources that come as words.
+#![tactic(auto)]
+
 mod book;
 mod reading;
 

@@ -1,4 +1,6 @@
 // A case: rules, and the plan and the hold list that were passed over them.
+#![tactic(auto)]
+
 mod calls;
 mod case;
 mod holding;

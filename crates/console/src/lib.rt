@@ -1,4 +1,6 @@
 // What the program does, as functions over values.
+#![tactic(auto)]
+
 mod commands;
 mod file_commands;
 mod outcome;

@@ -1,4 +1,6 @@
 // The program: arguments, files and printing.
+#![tactic(auto)]
+
 mod files;
 mod replay;
 

@@ -1,4 +1,6 @@
 // Calls and answers as lines of text.
+#![tactic(auto)]
+
 mod fields;
 mod reading;
 mod writing;

@@ -1,4 +1,6 @@
 // Plans and hold lists: sets of atoms that come and go as words.
+#![tactic(auto)]
+
 mod reading;
 mod writing;
 

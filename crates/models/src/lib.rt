@@ -1,4 +1,6 @@
 // Models of rules: what they derive, and their answer sets.
+#![tactic(auto)]
+
 mod derivation;
 mod firing;
 mod judging;

@@ -8,6 +8,7 @@ use Rattle.std.proofs.lemmas.List.{length-map, drop_more}
 use Rattle.rules.specs.Program.{Rule, Program, Rising, body_size, weight, RuleOver, Within}
 use Rattle.rules.specs.Props.{rising_prop}
 use Rattle.rules.specs.Asked.{rule_at, no_rule}
+use Rattle.rules.specs.declared.source.RuleSource.{Ghosts}
 use Rattle.reducts.specs.Reducts.{without_negative}
 use Rattle.reducts.specs.Selected.{numbered, selected, positive}
 use Rattle.reducts.specs.declared.selection.Selection.{Selection}
@@ -64,7 +65,7 @@ module _ (P : Program) where
             over = numbers_over w 0 numbers up;
           }
 
-pub selected_within : {S : Type 0} (meaning : S → Program) → ((s : S) → Within (meaning s)) → (s : Selection S) → Within (selected meaning s)
+pub selected_within : {S : Type 0} {g : Ghosts S} (meaning : S → Program) → ((s : S) → Within (meaning s)) → (s : Selection S g) → Within (selected meaning s)
 selected_within meaning within s = numbered_within (meaning s.source) s.total (take s.count s.numbers) s.rising (within s.source)
 
 positive_light : (rs : List Rule) → weight (map without_negative rs) ≤ weight rs

@@ -1,4 +1,6 @@
 // Rule sources that are made of another rule source.
+#![tactic(auto)]
+
 mod negative_reduct;
 mod reduct;
 mod selection;

@@ -1,4 +1,6 @@
 // Rule sources: whatever means a list of ground normal rules and answers questions about it.
+#![tactic(auto)]
+
 mod lent;
 mod limits;
 mod literal;

@@ -1,4 +1,6 @@
 // Runs of a case: any calls in any order, and their answers.
+#![tactic(auto)]
+
 mod answer;
 mod call;
 mod replaying;

@@ -1,4 +1,6 @@
 // Sets of atoms.
+#![tactic(auto)]
+
 mod members;
 mod set;
 

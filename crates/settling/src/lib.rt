@@ -1,4 +1,6 @@
 // What rules settle without any plan, and which atoms may be assumed to be false.
+#![tactic(auto)]
+
 mod assuming;
 mod settling;
 

@@ -1,4 +1,6 @@
 // Between bytes and values: the words of a file, and the texts that the program prints.
+#![tactic(auto)]
+
 mod files;
 mod full_reports;
 mod refusals;

@@ -1,4 +1,6 @@
 // Reads rules, plans, hold lists and questions, one to a line, and prints an answer to each.
+#![tactic(auto)]
+
 mod answer;
 mod line;
 mod trial;

@@ -1,4 +1,6 @@
 // Worked examples of books, sheets and what is made of them, as tests.
+#![tactic(auto)]
+
 #[cfg(test)]
 mod asked;
 #[cfg(test)]

@@ -1,4 +1,6 @@
 // Worked examples of hold lists, reports, runs and files, as tests.
+#![tactic(auto)]
+
 #[cfg(test)]
 mod file_commands;
 #[cfg(test)]

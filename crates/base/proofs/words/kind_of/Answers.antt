@@ -24,5 +24,5 @@ returns-in-5 c = kind_at c.args.word 5 c.in-5.is
 pub returns-in-6 : goal.returns-in-6
 returns-in-6 c = kind_at c.args.word 6 c.in-6.is
 
-pub returns-in-default : goal.returns-in-default
-returns-in-default c = kind_opening c.args.word (omega arith)
+pub returns-in_default : goal.returns-in_default
+returns-in_default c = kind_opening c.args.word (omega arith)

@@ -4,11 +4,11 @@ use Rattle.base.specs.Words.{word}
 use Rattle.base.proofs.WordForms.{code_below, payload_below}
 use Rattle.base.proofs.words.word_of.Goals as goal
 
-pub overflow-add-result : goal.overflow-add-result
-overflow-add-result c =
-    let sum : c.code.result * 2 ^ 29 % 2 ^ 32 + c.payload-of.result < 2 ^ 32 = omega (arith, code_below c.args.kind, c.code.ensures, payload_below c.args.number, c.payload-of.ensures) in
+pub overflow_add-result : goal.overflow_add-result
+overflow_add-result c =
+    let sum : c.code.result * 2 ^ 29 % 2 ^ 32 + c.payload_of.result < 2 ^ 32 = omega (arith, code_below c.args.kind, c.code.ensures, payload_below c.args.number, c.payload_of.ensures) in
     search rules
 
 pub returns : goal.returns
 unfolding word
-returns c = omega (arith, code_below c.args.kind, c.code.ensures, c.payload-of.ensures)
+returns c = omega (arith, code_below c.args.kind, c.code.ensures, c.payload_of.ensures)

@@ -8,10 +8,10 @@ use Rattle.books.proofs.Stepwise.{opening_then, word_taken, word_refused, read_o
 use Rattle.books.proofs.reading.read_book.Goals as goal
 
 pub loop-place-init : goal.loop-place-init
-loop-place-init c = (opening_then c.args.words.now (program c.in-ok-table.table) c.in-ok-table.ensures, omega arith)
+loop-place-init c = (opening_then c.args.words.now (program c.in_ok-table.table) c.in_ok-table.ensures, omega arith)
 
-pub overflow-cast-place : goal.overflow-cast-place
-overflow-cast-place c = omega arith
+pub overflow_cast-place : goal.overflow_cast-place
+overflow_cast-place c = omega arith
 
 pub returns-in-Err-Unfit : goal.returns-in-Err-Unfit
 returns-in-Err-Unfit c =
@@ -29,7 +29,7 @@ loop-place-preserved c =
     let P = program c.loop-place.table in
     let place = c.loop-place.place in
     let added = c.in-Ok.ensures in
-    (c.loop-place.invariant.0 ∙ word_taken P ws place (program c.add-word.new.table) (omega arith) added.0 added.1, omega (arith, before_limit P place (get_or ws place 0) added.0))
+    (c.loop-place.invariant.0 ∙ word_taken P ws place (program c.add_word.new.table) (omega arith) added.0 added.1, omega (arith, before_limit P place (get_or ws place 0) added.0))
 
 pub returns : goal.returns
 returns c =

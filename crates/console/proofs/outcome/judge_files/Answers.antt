@@ -3,8 +3,8 @@ use Rattle.console.proofs.Broken.{fits_no_form}
 use Rattle.console.proofs.Enough.{first_bytes_decide}
 use Rattle.console.proofs.outcome.judge_files.Goals as goal
 
-pub returns-in-err-words : goal.returns-in-err-words
-returns-in-err-words c = record { answer = search rules; law = (fits_no_form, first_bytes_decide) }
+pub returns-in_err-words : goal.returns-in_err-words
+returns-in_err-words c = record { answer = search rules; law = (fits_no_form, first_bytes_decide) }
 
 pub returns-in-Ok : goal.returns-in-Ok
 returns-in-Ok c = record { answer = search rules; law = (fits_no_form, first_bytes_decide) }

@@ -14,8 +14,8 @@ pub returns-in-Ok : goal.returns-in-Ok
 returns-in-Ok c =
     let P = program c.args.rules.now.table in
     let ws = words_of c.args.plan.now in
-    let words : c.as-slice.result.now ≡ ws = c.as-slice.ensures.value ∙ c.in-ok-words.ensures in
-    let rules = c.in-ok-case.ensures.rules in
+    let words : c.as_slice.result.now ≡ ws = c.as_slice.ensures.value ∙ c.in_ok-words.ensures in
+    let rules = c.in_ok-case.ensures.rules in
     let offered : Offered P ws (Ok tt) = subst₂ (λ (p : Program) (xs : List ℕ). Offered p xs (Ok tt)) rules words c.in-Ok.ensures.answer in
     let stands = c.in-Ok.ensures.stands ∙ ap (λ xs. Some (among (map payload xs))) words in
     let atoms : (rules_of c.offer.new.self).atoms ≡ P.atoms = ap (λ (p : Program). p.atoms) (c.in-Ok.ensures.same ∙ rules) in
@@ -27,8 +27,8 @@ pub returns : goal.returns
 returns c =
     let P = program c.args.rules.now.table in
     let ws = words_of c.args.plan.now in
-    let words : c.as-slice.result.now ≡ ws = c.as-slice.ensures.value ∙ c.in-ok-words.ensures in
-    let rules = c.in-ok-case.ensures.rules in
+    let words : c.as_slice.result.now ≡ ws = c.as_slice.ensures.value ∙ c.in_ok-words.ensures in
+    let rules = c.in_ok-case.ensures.rules in
     let f = c.in-Err.refusal in
     let offered : Offered P ws (Err f) = subst₂ (λ (p : Program) (xs : List ℕ). Offered p xs (Err f)) rules words c.in-Err.ensures.answer in
     IfOk-weaker c.refuse.result _ _ (λ o h. record { answer = Err f; offered = offered; told = h }) c.refuse.ensures

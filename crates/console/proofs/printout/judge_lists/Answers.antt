@@ -22,8 +22,8 @@ returns-in-Ok g c =
     let ps = words_of c.args.plan.now in
     let hs = words_of c.args.hold.now in
     let k = c.pass.new.case in
-    let rules = c.in-ok-case.ensures.rules in
-    let p = passing (rules_of c.in-ok-case.case) P rules c.as-slice.result.now ps c.as-slice-2.result.now hs (c.as-slice.ensures.value ∙ c.in-ok-plan.ensures) (c.as-slice-2.ensures.value ∙ c.in-ok-hold.ensures) (Ok tt) (plan_of k) (hold_of k) c.in-Ok.ensures.passing in
+    let rules = c.in_ok-case.ensures.rules in
+    let p = passing (rules_of c.in_ok-case.case) P rules c.as_slice.result.now ps c.as_slice-2.result.now hs (c.as_slice.ensures.value ∙ c.in_ok-plan.ensures) (c.as_slice-2.ensures.value ∙ c.in_ok-hold.ensures) (Ok tt) (plan_of k) (hold_of k) c.in-Ok.ensures.passing in
     IfOk-weaker c.report.result _ _
     (λ o h. told_passed P ps hs (plan_of k) (hold_of k) o.passed (vec_items o.text) p (λ M A plan held. subst (λ (X : Program). Reporting X M A o.passed (vec_items o.text)) (c.in-Ok.ensures.same ∙ rules) (h M A plan held)))
     c.report.ensures
@@ -35,5 +35,5 @@ returns g c =
     let hs = words_of c.args.hold.now in
     let k = c.pass.new.case in
     let f = c.in-Err.refusal in
-    let p = passing (rules_of c.in-ok-case.case) P c.in-ok-case.ensures.rules c.as-slice.result.now ps c.as-slice-2.result.now hs (c.as-slice.ensures.value ∙ c.in-ok-plan.ensures) (c.as-slice-2.ensures.value ∙ c.in-ok-hold.ensures) (Err f) (plan_of k) (hold_of k) c.in-Err.ensures.passing in
+    let p = passing (rules_of c.in_ok-case.case) P c.in_ok-case.ensures.rules c.as_slice.result.now ps c.as_slice-2.result.now hs (c.as_slice.ensures.value ∙ c.in_ok-plan.ensures) (c.as_slice-2.ensures.value ∙ c.in_ok-hold.ensures) (Err f) (plan_of k) (hold_of k) c.in-Err.ensures.passing in
     IfOk-weaker c.refuse.result _ _ (λ o h. told_refused P ps hs (plan_of k) (hold_of k) o.passed (vec_items o.text) f p h) c.refuse.ensures

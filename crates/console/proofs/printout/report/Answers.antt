@@ -19,26 +19,26 @@ standing k M A plan held old new r x is w =
 pub returns-in-Ok : goal.returns-in-Ok
 returns-in-Ok c M A plan held =
     let k = c.args.case.now in
-    let old = c.as-mut-slice.result.now in
+    let old = c.as_mut_slice.result.now in
     let new = c.report.new.out in
     let count = c.in-Ok.count in
-    let rest = drop (length new) c.in-ok-text.text.items in
+    let rest = drop (length new) c.in_ok-text.text.items in
     let o = standing k M A plan held old new c.report.result (Ok count) c.in-Ok.is c.report.ensures in
     record {
       passes = refl;
       unsettled = o.0;
       exact = o.1;
-      told = c.truncate.ensures.items ∙ ap (λ n. take count (take n (new ++ rest))) (sym c.as-mut-slice.ensures.len)
+      told = c.truncate.ensures.items ∙ ap (λ n. take count (take n (new ++ rest))) (sym c.as_mut_slice.ensures.len)
           ∙ kept_front report_room (report (rules_of k).atoms M A o.0) old new count o.2 rest;
     }
 
 pub returns-in-Err : goal.returns-in-Err
 returns-in-Err c =
     let k = c.args.case.now in
-    let old = c.as-mut-slice.result.now in
+    let old = c.as_mut_slice.result.now in
     let new = c.report.new.out in
     let f = c.in-Err.refusal in
-    let room : report_room ≤ length old = omega (arith, c.as-mut-slice.ensures.len ∙ c.in-ok-text.ensures.len) in
+    let room : report_room ≤ length old = omega (arith, c.as_mut_slice.ensures.len ∙ c.in_ok-text.ensures.len) in
     IfOk-weaker c.refuse.result _ _
     (λ o h M A plan held. absurd (let w = standing k M A plan held old new c.report.result (Err f) c.in-Err.is c.report.ensures in never_refused report_room (report (rules_of k).atoms M A w.0) old new f room w.2))
     c.refuse.ensures

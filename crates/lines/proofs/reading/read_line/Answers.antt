@@ -3,14 +3,14 @@ use Rattle.std.proofs.lemmas.Bool.{eqb-true}
 use Rattle.runs.specs.Traces.{call_of}
 use Rattle.lines.proofs.Exact.{empty_over, marked_over, reads_skipped, reads_call}
 use Rattle.lines.proofs.reading.read_line.Goals as goal
-use Rattle.lines.proofs.reading.read_line.Goals.{then-is-empty-via-then-is-empty, then-is-empty-via-else-is-empty+then-text-eq35}
+use Rattle.lines.proofs.reading.read_line.Goals.{then-is_empty-via-then-is_empty, then-is_empty-via-else-is_empty+then-text-eq35}
 
-pub returns-then-is-empty : goal.returns-then-is-empty
-returns-then-is-empty c =
-    elim c.then-is-empty.branch [
-      | then-is-empty-via-then-is-empty w ↦ reads_skipped (empty_over c.args.text.now (eqb-true (length c.args.text.now) 0 (sym w.if-is-empty.ensures)))
-      | then-is-empty-via-else-is-empty+then-text-eq35 w ↦ reads_skipped (marked_over c.args.text.now w.if-text-eq35.true)
+pub returns-then-is_empty : goal.returns-then-is_empty
+returns-then-is_empty c =
+    elim c.then-is_empty.branch [
+      | then-is_empty-via-then-is_empty w ↦ reads_skipped (empty_over c.args.text.now (eqb-true (length c.args.text.now) 0 (sym w.if-is_empty.ensures)))
+      | then-is_empty-via-else-is_empty+then-text-eq35 w ↦ reads_skipped (marked_over c.args.text.now w.if-text-eq35.true)
     ]
 
 pub returns-in-Some : goal.returns-in-Some
-returns-in-Some c = reads_call (call_of c.in-Some.call) (rw c.in-Some.is at c.in-ok-call.ensures)
+returns-in-Some c = reads_call (call_of c.in-Some.call) (rw c.in-Some.is at c.in_ok-call.ensures)

@@ -8,8 +8,8 @@ use Rattle.lists.proofs.reading.read_list.Goals as goal
 pub loop-place-init : goal.loop-place-init
 loop-place-init c = so_far_none c.min-most.result c.args.words.now c.new-set.result c.new-set.ensures.none
 
-pub overflow-cast-place : goal.overflow-cast-place
-overflow-cast-place c = omega (arith, c.loop-place.invariant.place_low, c.loop-place.invariant.last_high, c.min-most.ensures)
+pub overflow_cast-place : goal.overflow_cast-place
+overflow_cast-place c = omega (arith, c.loop-place.invariant.place_low, c.loop-place.invariant.last_high, c.min-most.ensures)
 
 pub returns-in-Some : goal.returns-in-Some
 returns-in-Some c =
@@ -24,7 +24,7 @@ returns-in-Some c =
 pub loop-place-preserved : goal.loop-place-preserved
 loop-place-preserved c =
     so_far_more c.min-most.result c.args.words.now c.loop-place.set c.loop-place.last c.loop-place.place c.loop-place.invariant c.loop-place-test.true
-    (omega (arith, c.min-most.ensures)) c.in-default.ensures c.insert.new.self c.payload-of-last.result c.payload-of-last.ensures c.insert.ensures.after
+    (omega (arith, c.min-most.ensures)) c.in_default.ensures c.insert.new.self c.payload_of-last.result c.payload_of-last.ensures c.insert.ensures.after
 
 pub returns : goal.returns
 returns c =

@@ -8,14 +8,14 @@ use Rattle.lists.specs.Writing.{list_room, words_for}
 use Rattle.lists.proofs.Written.{words_few, passed_none, count_few, passed_length, passed_over, passed_with}
 use Rattle.lists.proofs.writing.write_words.Goals as goal
 
-pub returns-then-out-lt-LIST-ROOM : goal.returns-then-out-lt-LIST-ROOM
-returns-then-out-lt-LIST-ROOM g c =
+pub returns-then-out-lt-LIST_ROOM : goal.returns-then-out-lt-LIST_ROOM
+returns-then-out-lt-LIST_ROOM g c =
     let marked = g.M.AtomMarks.marked c.args.marks.now in
     let word = g.M.AtomMarks.word c.args.marks.now in
     let n = min c.args.atoms max_atoms in
     let old = c.args.out.now in
     let new = words_for marked word n in
-    let short = lt-leb list_room (length old) c.if-out-lt-LIST-ROOM.true in
+    let short = lt-leb list_room (length old) c.if-out-lt-LIST_ROOM.true in
     record {
       answer = sym (ap (λ b. cond b (Ok (length new)) (Err (BufferTooShort list_room))) short);
       wrote = sym (ap (λ b. cond b (written_over new old) old) short);
@@ -25,18 +25,18 @@ returns-then-out-lt-LIST-ROOM g c =
 pub loop-atom-init : goal.loop-atom-init
 loop-atom-init g c = passed_none (g.M.AtomMarks.marked c.args.marks.now) (g.M.AtomMarks.word c.args.marks.now) c.args.out.now
 
-pub loop-atom-preserved-in-default : goal.loop-atom-preserved-in-default
-loop-atom-preserved-in-default g c =
+pub loop-atom-preserved-in_default : goal.loop-atom-preserved-in_default
+loop-atom-preserved-in_default g c =
     passed_over (g.M.AtomMarks.marked c.args.marks.now) (g.M.AtomMarks.word c.args.marks.now) c.args.out.now c.loop-atom.out c.loop-atom.atom c.loop-atom.count c.loop-atom.invariant
-    (sym c.word-for.ensures ∙ c.in-default.is)
+    (sym c.word_for.ensures ∙ c.in_default.is)
 
 pub loop-atom-preserved : goal.loop-atom-preserved
 loop-atom-preserved g c =
     passed_with (g.M.AtomMarks.marked c.args.marks.now) (g.M.AtomMarks.word c.args.marks.now) c.args.out.now c.loop-atom.out c.loop-atom.atom c.loop-atom.count c.loop-atom.invariant
-    c.in-Some.word (sym c.word-for.ensures ∙ c.in-Some.is) (omega (arith, c.min-atom-end.ensures))
+    c.in-Some.word (sym c.word_for.ensures ∙ c.in-Some.is) (omega (arith, c.min-atom-end.ensures))
 
-pub offset-bounds-out-count : goal.offset-bounds-out-count
-offset-bounds-out-count g c =
+pub offset_bounds-out-count : goal.offset_bounds-out-count
+offset_bounds-out-count g c =
     let few = count_few (g.M.AtomMarks.marked c.args.marks.now) (g.M.AtomMarks.word c.args.marks.now) c.args.out.now c.loop-atom.out c.loop-atom.atom c.loop-atom.count c.loop-atom.invariant in
     let low : c.loop-atom.count ≤ max_atoms = omega (arith, c.min-atom-end.ensures) in
     search rules
@@ -49,8 +49,8 @@ bounds-out-count g c =
     let long = passed_length marked word c.args.out.now c.loop-atom.out c.loop-atom.atom c.loop-atom.count (omega (arith, c.min-atom-end.ensures)) c.loop-atom.invariant in
     omega (arith, c.min-atom-end.ensures)
 
-pub overflow-add-count : goal.overflow-add-count
-overflow-add-count g c =
+pub overflow_add-count : goal.overflow_add-count
+overflow_add-count g c =
     let few = count_few (g.M.AtomMarks.marked c.args.marks.now) (g.M.AtomMarks.word c.args.marks.now) c.args.out.now c.loop-atom.out c.loop-atom.atom c.loop-atom.count c.loop-atom.invariant in
     let low : c.loop-atom.count ≤ max_atoms = omega (arith, c.min-atom-end.ensures) in
     search rules
@@ -62,7 +62,7 @@ returns g c =
     let n = min c.args.atoms max_atoms in
     let old = c.args.out.now in
     let new = words_for marked word n in
-    let enough = le-leb list_room (length old) c.if-out-lt-LIST-ROOM.false in
+    let enough = le-leb list_room (length old) c.if-out-lt-LIST_ROOM.false in
     let last : c.loop-atom.atom - 1 ≡ n = omega (arith, c.min-atom-end.ensures) in
     let same = ap (words_for marked word) last in
     record {

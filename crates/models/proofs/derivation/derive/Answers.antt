@@ -46,7 +46,7 @@ returns g c =
     let X = has c.args.blocked.now in
     let Y = has c.loop-atom.found in
     let waiting = items c.loop-atom.waiting in
-    let bare : length waiting ≤ 0 = ltb-false 0 (length waiting) (sym c.in-default.ensures.answer) in
+    let bare : length waiting ≤ 0 = ltb-false 0 (length waiting) (sym c.in_default.ensures.answer) in
     let none : waiting ≡ [] = nil_from_length waiting (omega arith) in
     record {
       answer = λ a. (c.loop-atom.invariant.0.derived a, all_found P X Y (λ j h. subst (λ xs. Done X Y xs (rule_at P (j + 1))) none (c.loop-atom.invariant.1 j h)) a);

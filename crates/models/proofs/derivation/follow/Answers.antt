@@ -7,8 +7,8 @@ use Rattle.models.proofs.derivation.follow.Goals as goal
 pub loop-at-init : goal.loop-at-init
 loop-at-init g c = (c.requires.state, c.requires.ahead, c.requires.sane.starts c.args.atom, refl)
 
-pub offset-bounds-occurrences-at : goal.offset-bounds-occurrences-at
-offset-bounds-occurrences-at g c = omega (arith, c.loop-at.invariant.2, c.requires.sane.few)
+pub offset_bounds-occurrences-at : goal.offset_bounds-occurrences-at
+offset_bounds-occurrences-at g c = omega (arith, c.loop-at.invariant.2, c.requires.sane.few)
 
 pub bounds-occurrences-at : goal.bounds-occurrences-at
 bounds-occurrences-at g c = omega (arith, c.loop-at.invariant.2, c.requires.sane.few)
@@ -16,8 +16,8 @@ bounds-occurrences-at g c = omega (arith, c.loop-at.invariant.2, c.requires.sane
 pub consider-requires : goal.consider-requires
 consider-requires g c = (c.loop-at.invariant.0, c.requires.sane.valid c.loop-at.at (omega arith) c.loop-at.invariant.2)
 
-pub offset-bounds-occurrences-at-in-loop-at : goal.offset-bounds-occurrences-at-in-loop-at
-offset-bounds-occurrences-at-in-loop-at g c = omega (arith, c.loop-at.invariant.2, c.requires.sane.few)
+pub offset_bounds-occurrences-at-in-loop-at : goal.offset_bounds-occurrences-at-in-loop-at
+offset_bounds-occurrences-at-in-loop-at g c = omega (arith, c.loop-at.invariant.2, c.requires.sane.few)
 
 pub bounds-occurrences-at-in-loop-at : goal.bounds-occurrences-at-in-loop-at
 bounds-occurrences-at-in-loop-at g c = omega (arith, c.loop-at.invariant.2, c.requires.sane.few)

@@ -17,5 +17,5 @@ pub returns-in-None : goal.returns-in-None
 returns-in-None g c =
     let P = g.S.RuleSource.meaning c.args.source.now in
     let M = has c.args.plan.now in
-    let s : AnswerSet P M = answers P M c.in-default.ensures (λ a t. (c.derive-derived.ensures.answer a).0 (c.in-None.ensures a t)) in
+    let s : AnswerSet P M = answers P M c.in_default.ensures (λ a t. (c.derive-derived.ensures.answer a).0 (c.in-None.ensures a t)) in
     record { answer = s; law = verdict_exact P M (Ok tt) s }

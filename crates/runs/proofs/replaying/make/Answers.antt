@@ -9,9 +9,9 @@ use Rattle.runs.proofs.replaying.make.Goals as goal
 pub returns-in-Offer : goal.returns-in-Offer
 returns-in-Offer c =
     let o = c.offer.ensures in
-    let is : offer c.as-slice.result.now ≡ call_of c.args.call.now = ap offer c.as-slice.ensures.value ∙ sym (ap call_of c.in-Offer.is) in
+    let is : offer c.as_slice.result.now ≡ call_of c.args.call.now = ap offer c.as_slice.ensures.value ∙ sym (ap call_of c.in-Offer.is) in
     record {
       same = o.same;
-      step = subst (λ (k : Call). Step (rules_of c.args.case.now) k (answer_of c.passed-or-refused.result) (plan_of c.args.case.now) (hold_of c.args.case.now) (plan_of c.offer.new.self) (hold_of c.offer.new.self)) is
-          (record { exact = (c.offer.result, c.passed-or-refused.ensures, o.answer, o.law); change = record { result = c.offer.result; law = o.law; plan_next = o.stands; held_next = o.held } });
+      step = subst (λ (k : Call). Step (rules_of c.args.case.now) k (answer_of c.passed_or_refused.result) (plan_of c.args.case.now) (hold_of c.args.case.now) (plan_of c.offer.new.self) (hold_of c.offer.new.self)) is
+          (record { exact = (c.offer.result, c.passed_or_refused.ensures, o.answer, o.law); change = record { result = c.offer.result; law = o.law; plan_next = o.stands; held_next = o.held } });
     }

@@ -13,12 +13,12 @@ loop-i-init g c a =
 
 pub loop-i-preserved : goal.loop-i-preserved
 loop-i-preserved g c =
-    first_more (g.S.RuleSource.meaning c.args.source.now) (has c.args.unsettled.now) c.loop-i.i (has c.loop-i.found) (has c.add-negative.new.found) c.loop-i.invariant c.add-negative.ensures
+    first_more (g.S.RuleSource.meaning c.args.source.now) (has c.args.unsettled.now) c.loop-i.i (has c.loop-i.found) (has c.add_negative.new.found) c.loop-i.invariant c.add_negative.ensures
 
 pub returns : goal.returns
 returns g c =
     let P = g.S.RuleSource.meaning c.args.source.now in
-    let done : c.loop-i.i ≡ length P.rules = omega (arith, c.rule-count-i-end.ensures) in
+    let done : c.loop-i.i ≡ length P.rules = omega (arith, c.rule_count-i-end.ensures) in
     record {
       answer = λ a. let all = first_all P c.loop-i.i a done in ((λ t. let o = (c.loop-i.invariant a).0 t in (all.0 o.0, o.1)), λ o. (c.loop-i.invariant a).1 (all.1 o.0, o.1));
       law = all_pre_assumptions;

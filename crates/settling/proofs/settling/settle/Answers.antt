@@ -31,7 +31,7 @@ pub loop-round-smaller : goal.loop-round-smaller
 loop-round-smaller g c =
     let P = g.S.RuleSource.meaning c.args.source.now in
     let r = c.loop-round.round in
-    let new = found r.next r.low c.first-outside.result c.first-outside.ensures (sym c.is-some.ensures ∙ c.loop-round-test.true) in
+    let new = found r.next r.low c.first_outside.result c.first_outside.ensures (sym c.is_some.ensures ∙ c.loop-round-test.true) in
     let up = low_in_next P (has r.low) (has r.high) (has r.next) c.loop-round.invariant in
     let more : size r.low < size r.next = size_grows r.low r.next up new.0 new.1.1 new.1.0 in
     let same : size c.after-round-in-loop-round.result.low ≡ size r.next = ap size c.after-round-in-loop-round.ensures.low in
@@ -49,7 +49,7 @@ pub returns : goal.returns
 returns g c =
     let P = g.S.RuleSource.meaning c.args.source.now in
     let r = c.loop-round.round in
-    let covered = found_none r.next r.low c.first-outside.result c.first-outside.ensures (sym c.is-some.ensures ∙ c.loop-round-test.false) in
+    let covered = found_none r.next r.low c.first_outside.result c.first_outside.ensures (sym c.is_some.ensures ∙ c.loop-round-test.false) in
     let open' = has c.difference.result in
     record {
       trues = trues_exact P (has r.low) (has r.high) (has r.next) c.loop-round.invariant covered;

@@ -9,8 +9,8 @@ use Rattle.sharing.proofs.counting.count_passing.Goals.{then-holds, else-holds}
 pub loop-atom-init : goal.loop-atom-init
 loop-atom-init g c = sym (length_rising_none (g.T.AtomTest.passes c.args.test.now))
 
-pub overflow-add-count : goal.overflow-add-count
-overflow-add-count g c =
+pub overflow_add-count : goal.overflow_add-count
+overflow_add-count g c =
     let p = g.T.AtomTest.passes c.args.test.now in
     omega (arith, c.loop-atom.invariant, length_rising_most p (c.loop-atom.atom - 1))
 

@@ -8,8 +8,8 @@ use Rattle.sharing.proofs.counting.nth_passing.Goals as goal
 pub loop-atom-init : goal.loop-atom-init
 loop-atom-init g c = let p = g.T.AtomTest.passes c.args.test.now in (sym (length_rising_none p), none_yet p c.args.place)
 
-pub overflow-add-count : goal.overflow-add-count
-overflow-add-count g c =
+pub overflow_add-count : goal.overflow_add-count
+overflow_add-count g c =
     let p = g.T.AtomTest.passes c.args.test.now in
     omega (arith, c.loop-atom.invariant.0, length_rising_most p (c.loop-atom.atom - 1))
 

@@ -23,34 +23,34 @@ loop-place-init c =
       omega (arith, ap (λ (S : Sheet). length S.jobs) is),
     )
 
-pub returns-in-default-get : goal.returns-in-default-get
-returns-in-default-get c =
+pub returns-in_default-get : goal.returns-in_default-get
+returns-in_default-get c =
     let ws = c.args.words.now in
     let past : length ws ≤ c.loop-place.place = search rules in
     c.loop-place.invariant.0 ∙ job_missing c.in-Ok.counts.jobs (sheet_of c.loop-place.sheet) ws c.loop-place.place (omega arith) past
 
-pub returns-in-Err-read-job : goal.returns-in-Err-read-job
-returns-in-Err-read-job c =
+pub returns-in-Err-read_job : goal.returns-in-Err-read_job
+returns-in-Err-read_job c =
     let ws = c.args.words.now in
     let place = c.loop-place.place in
     let S = sheet_of c.loop-place.sheet in
-    let misfit = c.in-Err-read-job.misfit in
+    let misfit = c.in-Err-read_job.misfit in
     let inside : place < length ws = search rules in
     let word : c.in-Some-get.word.now ≡ get_or ws place 0 = search rules in
-    let unfit = sym (ap₂ (λ h w. job_misfit h (kind w) (payload w)) (sym c.loop-place.invariant.1) word) ∙ c.in-Err-read-job.ensures in
+    let unfit = sym (ap₂ (λ h w. job_misfit h (kind w) (payload w)) (sym c.loop-place.invariant.1) word) ∙ c.in-Err-read_job.ensures in
     c.loop-place.invariant.0
     ∙ job_refused c.in-Ok.counts.jobs S ws place misfit (omega arith) inside unfit
-    ∙ ap Err (sym c.at-in-Err-read-job.ensures)
+    ∙ ap Err (sym c.at-in-Err-read_job.ensures)
 
 pub loop-place-preserved : goal.loop-place-preserved
 loop-place-preserved c =
     let ws = c.args.words.now in
     let place = c.loop-place.place in
     let S = sheet_of c.loop-place.sheet in
-    let job = c.in-Ok-read-job.job in
+    let job = c.in-Ok-read_job.job in
     let inside : place < length ws = search rules in
     let word : c.in-Some-get.word.now ≡ get_or ws place 0 = search rules in
-    let read = c.in-Ok-read-job.ensures in
+    let read = c.in-Ok-read_job.ensures in
     let fits = sym (ap₂ (λ h w. job_misfit h (kind w) (payload w)) (sym c.loop-place.invariant.1) word) ∙ read.0 in
     let is = read.1 ∙ ap (λ w. job_in (payload w)) word in
     let grown = c.add.ensures in (

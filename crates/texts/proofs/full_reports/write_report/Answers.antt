@@ -14,13 +14,13 @@ one_line_more plan held unsettled i = subst (λ a. report_lines plan held unsett
 whole_fits : (atoms : ℕ) (plan held unsettled : Atoms) → length (report (min atoms max_atoms) plan held unsettled) ≤ report_room
 whole_fits atoms plan held unsettled = report_fits (min atoms max_atoms) plan held unsettled (omega arith)
 
-pub put-headline-at-requires : goal.put-headline-at-requires
-put-headline-at-requires c =
+pub put_headline-at-requires : goal.put_headline-at-requires
+put_headline-at-requires c =
     let few : c.count.result ≤ max_atoms = omega (arith, size_most c.args.plan.now) in
     (few, omega (arith, lines_fit c.count.result c.min-most.result few (omega arith)))
 
-pub put-atom-at-requires : goal.put-atom-at-requires
-put-atom-at-requires c =
+pub put_atom-at-requires : goal.put_atom-at-requires
+put_atom-at-requires c =
     let plan = has c.args.plan.now in
     let held = has c.args.held.now in
     let unsettled = has c.args.unsettled.now in
@@ -34,10 +34,10 @@ put-atom-at-requires c =
 
 pub loop-i-preserved : goal.loop-i-preserved
 loop-i-preserved c =
-    put_as (one_line_more (has c.args.plan.now) (has c.args.held.now) (has c.args.unsettled.now) c.loop-i.i) (put_then c.loop-i.invariant c.put-atom-at.ensures)
+    put_as (one_line_more (has c.args.plan.now) (has c.args.held.now) (has c.args.unsettled.now) c.loop-i.i) (put_then c.loop-i.invariant c.put_atom-at.ensures)
 
-pub returns-then-out-lt-REPORT-ROOM : goal.returns-then-out-lt-REPORT-ROOM
-returns-then-out-lt-REPORT-ROOM c = put_in_no_room c.if-out-lt-REPORT-ROOM.true (whole_fits c.args.atoms (has c.args.plan.now) (has c.args.held.now) (has c.args.unsettled.now))
+pub returns-then-out-lt-REPORT_ROOM : goal.returns-then-out-lt-REPORT_ROOM
+returns-then-out-lt-REPORT_ROOM c = put_in_no_room c.if-out-lt-REPORT_ROOM.true (whole_fits c.args.atoms (has c.args.plan.now) (has c.args.held.now) (has c.args.unsettled.now))
 
 pub returns : goal.returns
 returns c =
@@ -45,7 +45,7 @@ returns c =
     let held = has c.args.held.now in
     let unsettled = has c.args.unsettled.now in
     let all : c.loop-i.i ≡ min c.args.atoms max_atoms = omega arith in
-    put_in_room c.if-out-lt-REPORT-ROOM.false (whole_fits c.args.atoms plan held unsettled)
+    put_in_room c.if-out-lt-REPORT_ROOM.false (whole_fits c.args.atoms plan held unsettled)
     (put_then
-    (put_as (ap₂ headline c.count.ensures c.min-most.ensures) c.put-headline-at.ensures)
+    (put_as (ap₂ headline c.count.ensures c.min-most.ensures) c.put_headline-at.ensures)
     (put_as (ap (report_lines plan held unsettled) all) c.loop-i.invariant))

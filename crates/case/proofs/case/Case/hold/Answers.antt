@@ -43,32 +43,32 @@ module _ (c : Case) (ws : List ℕ) where
         );
       }
 
-pub returns-in-err-held : goal.returns-in-err-held
-returns-in-err-held c =
+pub returns-in_err-held : goal.returns-in_err-held
+returns-in_err-held c =
     let s = c.args.self.now in
     let P = program s.rules in
     let ws = c.args.words.now in
     let M = has c.in-Some.plan in
-    let f = c.in-err-held.field-0.0 in
-    let p = err_from_is_err_and c.from-residual.result c.from-residual.ensures.1 in
-    let j = words_refused s.rules c.atom-count.result c.atom-count.ensures c.read_list.ensures.law.0 ws (λ i. (c.type-inv.words i).fits) (Assumed P M) (Assumption P M) f c.in-err-held.ensures.answer in
+    let f = c.in_err-held.field-0.0 in
+    let p = err_from_is_err_and c.from_residual.result c.from_residual.ensures.1 in
+    let j = words_refused s.rules c.atom_count.result c.atom_count.ensures c.read_list.ensures.law.0 ws (λ i. (c.type_inv.words i).fits) (Assumed P M) (Assumption P M) f c.in_err-held.ensures.answer in
     let o = subst (Refusing s ws) (sym (p.1 ∙ ap Err p.2)) (record { answered = answered s ws M (planned s c.in-Some.plan c.plan.result c.plan.ensures.answer c.in-Some.is) (Err f) j; held = refl }) in
     record { answer = o.answered.answer; law = o.answered.law; plan = refl; held = o.held; same = refl; refused = λ _. refl }
 
-pub returns-in-err-judge-held : goal.returns-in-err-judge-held
-returns-in-err-judge-held c =
+pub returns-in_err-judge_held : goal.returns-in_err-judge_held
+returns-in_err-judge_held c =
     let s = c.args.self.now in
     let P = program s.rules in
     let ws = c.args.words.now in
     let M = has c.in-Some.plan in
-    let f = c.in-err-judge-held.field-0.0 in
-    let p = err_from_is_err_and c.from-residual-in-err-judge-held.result c.from-residual-in-err-judge-held.ensures.1 in
-    let j = set_judged s.rules c.atom-count.result c.atom-count.ensures c.read_list.ensures.law.0 ws (λ i. (c.type-inv.words i).fits) (Assumed P M) (Assumption P M) c.in-ok-held.held c.in-ok-held.ensures.answer (Err f) c.in-err-judge-held.ensures.answer c.in-err-judge-held.ensures.law in
+    let f = c.in_err-judge_held.field-0.0 in
+    let p = err_from_is_err_and c.from_residual-in_err-judge_held.result c.from_residual-in_err-judge_held.ensures.1 in
+    let j = set_judged s.rules c.atom_count.result c.atom_count.ensures c.read_list.ensures.law.0 ws (λ i. (c.type_inv.words i).fits) (Assumed P M) (Assumption P M) c.in_ok-held.held c.in_ok-held.ensures.answer (Err f) c.in_err-judge_held.ensures.answer c.in_err-judge_held.ensures.law in
     let o = subst (Refusing s ws) (sym (p.1 ∙ ap Err p.2)) (record { answered = answered s ws M (planned s c.in-Some.plan c.plan.result c.plan.ensures.answer c.in-Some.is) (Err f) j; held = refl }) in
     record { answer = o.answered.answer; law = o.answered.law; plan = refl; held = o.held; same = refl; refused = λ _. refl }
 
-pub invariant-of-self : goal.invariant-of-self
-invariant-of-self c = (c.args.self.now.known, (∣ (c.in-Some.ensures.stands, c.in-ok-judge-held.ensures.answer) ∣₁, tt))
+pub invariant_of-self : goal.invariant_of-self
+invariant_of-self c = record { known = c.args.self.now.known; upheld = ∣ (c.in-Some.ensures.stands, c.in_ok-judge_held.ensures.answer) ∣₁ }
 
 pub returns : goal.returns
 returns c =
@@ -76,14 +76,14 @@ returns c =
     let P = program s.rules in
     let ws = c.args.words.now in
     let M = has c.in-Some.plan in
-    let list = c.in-ok-held.ensures.answer in
+    let list = c.in_ok-held.ensures.answer in
     let stands = planned s c.in-Some.plan c.plan.result c.plan.ensures.answer c.in-Some.is in
-    let o = answered s ws M stands (Ok tt) (set_judged s.rules c.atom-count.result c.atom-count.ensures c.read_list.ensures.law.0 ws (λ i. (c.type-inv.words i).fits) (Assumed P M) (Assumption P M) c.in-ok-held.held list (Ok tt) c.in-ok-judge-held.ensures.answer c.in-ok-judge-held.ensures.law) in
+    let o = answered s ws M stands (Ok tt) (set_judged s.rules c.atom_count.result c.atom_count.ensures c.read_list.ensures.law.0 ws (λ i. (c.type_inv.words i).fits) (Assumed P M) (Assumption P M) c.in_ok-held.held list (Ok tt) c.in_ok-judge_held.ensures.answer c.in_ok-judge_held.ensures.law) in
     record {
       answer = o.answer;
       law = o.law;
       plan = sym stands;
-      held = set_stands s.rules c.atom-count.result c.atom-count.ensures c.read_list.ensures.law.0 ws (λ i. (c.type-inv.words i).fits) c.in-ok-held.held list;
+      held = set_stands s.rules c.atom_count.result c.atom_count.ensures c.read_list.ensures.law.0 ws (λ i. (c.type_inv.words i).fits) c.in_ok-held.held list;
       same = refl;
       refused = λ e. absurd (false≢true e);
     }

@@ -27,8 +27,8 @@ returns-in-Some c =
     let j : Assumed P M A (Err (NotPreAssumption c.in-Some.atom)) = least_not_pre P M A pre exact c.in-Some.atom c.in-Some.ensures in
     record { answer = j; law = assumed_exact P M A (Err (NotPreAssumption c.in-Some.atom)) j }
 
-pub returns-in-Some-first-other-than : goal.returns-in-Some-first-other-than
-returns-in-Some-first-other-than c =
+pub returns-in-Some-first_other_than : goal.returns-in-Some-first_other_than
+returns-in-Some-first_other_than c =
     let s = c.args.self.now in
     let P = program s.rules in
     let M = has c.args.plan.now in
@@ -37,8 +37,8 @@ returns-in-Some-first-other-than c =
     let exact = pre_exact P (has s.assumable) M (has c.difference-pre.result) (known_opened P s.settled s.assumable s.known).assumed c.difference-pre.ensures in
     let trues = subst (λ (Q : Program). Exactly (has w.trues) (SettledTrue Q)) c.new-rest.ensures.rules c.settle.ensures.trues in
     let falses = subst (λ (Q : Program). Exactly (false_in w) (SettledFalse Q)) c.new-rest.ensures.rules c.settle.ensures.falses in
-    let a = c.in-Some-first-other-than.atom in
-    let j : Assumed P M A (Err (NotSettled a)) = ((λ b h. (exact b).0 (c.in-default.ensures b h)), least_as (negative_reduct P A) w trues falses M a c.in-Some-first-other-than.ensures) in
+    let a = c.in-Some-first_other_than.atom in
+    let j : Assumed P M A (Err (NotSettled a)) = ((λ b h. (exact b).0 (c.in_default.ensures b h)), least_as (negative_reduct P A) w trues falses M a c.in-Some-first_other_than.ensures) in
     record { answer = j; law = assumed_exact P M A (Err (NotSettled a)) j }
 
 pub returns-in-None : goal.returns-in-None
@@ -51,5 +51,5 @@ returns-in-None c =
     let exact = pre_exact P (has s.assumable) M (has c.difference-pre.result) (known_opened P s.settled s.assumable s.known).assumed c.difference-pre.ensures in
     let trues = subst (λ (Q : Program). Exactly (has w.trues) (SettledTrue Q)) c.new-rest.ensures.rules c.settle.ensures.trues in
     let falses = subst (λ (Q : Program). Exactly (false_in w) (SettledFalse Q)) c.new-rest.ensures.rules c.settle.ensures.falses in
-    let j : Assumption P M A = record { pre = λ b h. (exact b).0 (c.in-default.ensures b h); settles = λ b. (agrees_as (negative_reduct P A) w trues falses M b).0 (c.in-None.ensures b) } in
+    let j : Assumption P M A = record { pre = λ b h. (exact b).0 (c.in_default.ensures b h); settles = λ b. (agrees_as (negative_reduct P A) w trues falses M b).0 (c.in-None.ensures b) } in
     record { answer = j; law = assumed_exact P M A (Ok tt) j }

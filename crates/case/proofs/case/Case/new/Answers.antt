@@ -1,9 +1,9 @@
 -- What the rules settle is found out once.
 use Rattle.case.proofs.case.Case.new.Goals as goal
 
-pub invariant-of-result : goal.invariant-of-result
-invariant-of-result g c = (
-  ∣ record {
+pub invariant_of-result : goal.invariant_of-result
+invariant_of-result g c = record {
+  known = ∣ record {
     trues = c.settle-settled.ensures.trues;
     falses = c.settle-settled.ensures.falses;
     unsettled = c.settle-settled.ensures.unsettled;
@@ -11,6 +11,6 @@ invariant-of-result g c = (
       (λ t. let o = (c.assumable-assumable.ensures.answer a).0 t in record { negative = o.0; unsettled = (c.settle-settled.ensures.unsettled a).0 o.1 }),
       λ s. (c.assumable-assumable.ensures.answer a).1 (s.negative, (c.settle-settled.ensures.unsettled a).1 s.unsettled),
     );
-  } ∣₁,
-  (∣ tt ∣₁, tt),
-)
+  } ∣₁;
+  upheld = ∣ tt ∣₁;
+}

@@ -32,41 +32,41 @@ module _ (c : Case) (ws : List ℕ) where
     pub stands : plan_of c ≡ after_offer r ws (plan_of c)
     pub held : hold_of c ≡ hold_after_offer r (hold_of c)
 
-pub returns-in-err-plan : goal.returns-in-err-plan
-returns-in-err-plan c =
+pub returns-in_err-plan : goal.returns-in_err-plan
+returns-in_err-plan c =
     let s = c.args.self.now in
     let P = program s.rules in
     let ws = c.args.words.now in
-    let p = err_from_is_err_and c.from-residual.result c.from-residual.ensures.1 in
-    let j = words_refused s.rules c.atom-count.result c.atom-count.ensures c.read_list.ensures.law.0 ws (λ i. (c.type-inv.words i).fits) (Judged P) (AnswerSet P) c.in-err-plan.field-0.0 c.in-err-plan.ensures.answer in
+    let p = err_from_is_err_and c.from_residual.result c.from_residual.ensures.1 in
+    let j = words_refused s.rules c.atom_count.result c.atom_count.ensures c.read_list.ensures.law.0 ws (λ i. (c.type_inv.words i).fits) (Judged P) (AnswerSet P) c.in_err-plan.field-0.0 c.in_err-plan.ensures.answer in
     let o = subst (Refusing s ws) (sym (p.1 ∙ ap Err p.2)) (record { judgement = j; stands = refl; held = refl }) in
     record { answer = verdict_on P (list_of_words P.atoms ws) _ o.judgement.answer; law = plan_law P ws _ o.judgement.law; stands = o.stands; held = o.held; same = refl; refused = λ _. refl }
 
-pub returns-in-err-judge : goal.returns-in-err-judge
-returns-in-err-judge c =
+pub returns-in_err-judge : goal.returns-in_err-judge
+returns-in_err-judge c =
     let s = c.args.self.now in
     let P = program s.rules in
     let ws = c.args.words.now in
-    let f = c.in-err-judge.field-0.0 in
-    let p = err_from_is_err_and c.from-residual-in-err-judge.result c.from-residual-in-err-judge.ensures.1 in
-    let j = set_judged s.rules c.atom-count.result c.atom-count.ensures c.read_list.ensures.law.0 ws (λ i. (c.type-inv.words i).fits) (Judged P) (AnswerSet P) c.in-ok-plan.plan c.in-ok-plan.ensures.answer (Err f) c.in-err-judge.ensures.answer c.in-err-judge.ensures.law in
+    let f = c.in_err-judge.field-0.0 in
+    let p = err_from_is_err_and c.from_residual-in_err-judge.result c.from_residual-in_err-judge.ensures.1 in
+    let j = set_judged s.rules c.atom_count.result c.atom_count.ensures c.read_list.ensures.law.0 ws (λ i. (c.type_inv.words i).fits) (Judged P) (AnswerSet P) c.in_ok-plan.plan c.in_ok-plan.ensures.answer (Err f) c.in_err-judge.ensures.answer c.in_err-judge.ensures.law in
     let o = subst (Refusing s ws) (sym (p.1 ∙ ap Err p.2)) (record { judgement = j; stands = refl; held = refl }) in
     record { answer = verdict_on P (list_of_words P.atoms ws) _ o.judgement.answer; law = plan_law P ws _ o.judgement.law; stands = o.stands; held = o.held; same = refl; refused = λ _. refl }
 
-pub invariant-of-self : goal.invariant-of-self
-invariant-of-self c = (c.args.self.now.known, (∣ c.in-ok-judge.ensures.answer ∣₁, tt))
+pub invariant_of-self : goal.invariant_of-self
+invariant_of-self c = record { known = c.args.self.now.known; upheld = ∣ c.in_ok-judge.ensures.answer ∣₁ }
 
 pub returns : goal.returns
 returns c =
     let s = c.args.self.now in
     let P = program s.rules in
     let ws = c.args.words.now in
-    let list = c.in-ok-plan.ensures.answer in
-    let o = set_judged s.rules c.atom-count.result c.atom-count.ensures c.read_list.ensures.law.0 ws (λ i. (c.type-inv.words i).fits) (Judged P) (AnswerSet P) c.in-ok-plan.plan list (Ok tt) c.in-ok-judge.ensures.answer c.in-ok-judge.ensures.law in
+    let list = c.in_ok-plan.ensures.answer in
+    let o = set_judged s.rules c.atom_count.result c.atom_count.ensures c.read_list.ensures.law.0 ws (λ i. (c.type_inv.words i).fits) (Judged P) (AnswerSet P) c.in_ok-plan.plan list (Ok tt) c.in_ok-judge.ensures.answer c.in_ok-judge.ensures.law in
     record {
       answer = verdict_on P (list_of_words P.atoms ws) _ o.answer;
       law = plan_law P ws _ o.law;
-      stands = set_stands s.rules c.atom-count.result c.atom-count.ensures c.read_list.ensures.law.0 ws (λ i. (c.type-inv.words i).fits) c.in-ok-plan.plan list;
+      stands = set_stands s.rules c.atom_count.result c.atom_count.ensures c.read_list.ensures.law.0 ws (λ i. (c.type_inv.words i).fits) c.in_ok-plan.plan list;
       held = refl;
       same = refl;
       refused = λ e. absurd (false≢true e);

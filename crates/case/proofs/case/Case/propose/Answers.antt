@@ -21,9 +21,9 @@ returns c =
     let plan = has c.in-Some.plan in
     let list = has c.difference-list.result in
     let known = known_opened P s.settled s.assumable s.known in
-    let n = atoms_fit P (program_within s.rules) c.atom-count.result c.atom-count.ensures in
+    let n = atoms_fit P (program_within s.rules) c.atom_count.result c.atom_count.ensures in
     let old = c.args.out.now in
-    let wrote = subst (λ k. WroteInRoom list_room (words_for list (word Member) k) old c.write-words.result c.write-words.new.out) n c.write-words.ensures in
+    let wrote = subst (λ k. WroteInRoom list_room (words_for list (word Member) k) old c.write_words.result c.write_words.new.out) n c.write_words.ensures in
     let stands : Some plan ≡ plan_of s = sym (ap (option_map has) c.in-Some.is) ∙ c.plan.ensures.answer in
-    subst (λ (p : Option Atoms). Proposed P p old c.write-words.result c.write-words.new.out) stands
+    subst (λ (p : Option Atoms). Proposed P p old c.write_words.result c.write_words.new.out) stands
     (words_for list (word Member) P.atoms, proposal P (has s.assumable) plan list known.assumed c.difference-list.ensures (program_within s.rules), wrote)

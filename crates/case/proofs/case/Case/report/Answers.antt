@@ -15,11 +15,11 @@ pub returns : goal.returns
 returns c =
     let s = c.args.self.now in
     let P = program s.rules in
-    let n = atoms_fit P (program_within s.rules) c.atom-count.result c.atom-count.ensures in
+    let n = atoms_fit P (program_within s.rules) c.atom_count.result c.atom_count.ensures in
     let plan = has c.in-Hold.plan in
     let held = has c.in-Hold.held in
     let unsettled = has s.settled.unsettled in
     let old = c.args.out.now in
-    let wrote = subst (λ k. WroteInRoom report_room (report k plan held unsettled) old c.write-report.result c.write-report.new.out) n c.write-report.ensures in
-    subst (λ (t : Standing). Reported P (standing_plan t) (standing_hold t) old c.write-report.result c.write-report.new.out) (sym c.in-Hold.is)
+    let wrote = subst (λ k. WroteInRoom report_room (report k plan held unsettled) old c.write_report.result c.write_report.new.out) n c.write_report.ensures in
+    subst (λ (t : Standing). Reported P (standing_plan t) (standing_hold t) old c.write_report.result c.write_report.new.out) (sym c.in-Hold.is)
     (unsettled, (known_opened P s.settled s.assumable s.known).unsettled, wrote)

@@ -17,6 +17,6 @@ returns c =
     let P = program s.rules in
     let w = s.settled in
     let marked : Atoms = λ a. leb a max_atoms && not (has w.unsettled a) in
-    let n = atoms_fit P (program_within s.rules) c.atom-count.result c.atom-count.ensures in
+    let n = atoms_fit P (program_within s.rules) c.atom_count.result c.atom_count.ensures in
     let words = settled_words P w s.assumable (known_opened P w s.assumable s.known) (program_within s.rules) in
-    (_, words, subst (λ k. WroteInRoom list_room (words_for marked (node_word (has w.trues)) k) c.args.out.now c.write-words.result c.write-words.new.out) n c.write-words.ensures)
+    (_, words, subst (λ k. WroteInRoom list_room (words_for marked (node_word (has w.trues)) k) c.args.out.now c.write_words.result c.write_words.new.out) n c.write_words.ensures)

@@ -21,10 +21,10 @@ pub returns-then-contains-2 : goal.returns-then-contains-2
 returns-then-contains-2 c =
     let w = c.args.self.now.settled in
     let a = c.args.atom in
-    ap Some c.word-of.ensures ∙ marked w a TrueNode c.if-atom-gt-MAX-ATOMS.false (sym c.if-contains.ensures) (ap (λ b. cond b TrueNode FalseNode) c.if-contains-2.ensures)
+    ap Some c.word_of.ensures ∙ marked w a TrueNode c.if-atom-gt-MAX_ATOMS.false (sym c.if-contains.ensures) (ap (λ b. cond b TrueNode FalseNode) c.if-contains-2.ensures)
 
 pub returns : goal.returns
 returns c =
     let w = c.args.self.now.settled in
     let a = c.args.atom in
-    ap Some c.word-of-2.ensures ∙ marked w a FalseNode c.if-atom-gt-MAX-ATOMS.false (sym c.if-contains.ensures) (ap (λ b. cond b TrueNode FalseNode) c.if-contains-2.ensures)
+    ap Some c.word_of-2.ensures ∙ marked w a FalseNode c.if-atom-gt-MAX_ATOMS.false (sym c.if-contains.ensures) (ap (λ b. cond b TrueNode FalseNode) c.if-contains-2.ensures)

@@ -11,4 +11,4 @@ pub returns : goal.returns
 returns c =
     let in_set : has c.args.self.now c.args.atom ≡ true = sym c.if-not-contains.ensures in
     let small = payload_small c.args.atom (omega (arith, has_high c.args.self.now c.args.atom in_set)) in
-    ap Some (c.word-of.ensures ∙ ap (word Member) small) ∙ sym (ap (λ b. cond b (Some (word Member c.args.atom)) None) in_set)
+    ap Some (c.word_of.ensures ∙ ap (word Member) small) ∙ sym (ap (λ b. cond b (Some (word Member c.args.atom)) None) in_set)

@@ -26,5 +26,5 @@ pub returns : goal.returns
 returns g c =
     let P = selected g.S.RuleSource.meaning c.args.self.now.rules in
     let r = rule_at P c.args.rule in
-    let whole : c.body-len-all.result ≡ body_size (without_negative r) = omega (arith, c.body-len-all.ensures) in
+    let whole : c.body_len-all.result ≡ body_size (without_negative r) = omega (arith, c.body_len-all.ensures) in
     whole ∙ ap body_size (positive_rule P c.args.rule)

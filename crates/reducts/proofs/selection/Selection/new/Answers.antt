@@ -20,13 +20,13 @@ loop-i-preserved g c =
       kept_in (g.T.RuleTest.passes c.args.test.now) (g.S.RuleSource.meaning c.args.source) l.i l.count l.numbers (omega arith) l.invariant.2 room c.if-not-keeps.ensures,
     )
 
-pub invariant-of-result : goal.invariant-of-result
-invariant-of-result g c =
+pub invariant_of-result : goal.invariant_of-result
+invariant_of-result g c =
     let l = c.loop-i in
-    let all : c.rule-count-total.result ≡ l.i = omega arith in
-    (omega arith, (∣ rw all l.invariant.2.rises ∣₁, tt))
+    let all : c.rule_count-total.result ≡ l.i = omega arith in
+    record { fits = omega arith; rising = ∣ rw all l.invariant.2.rises ∣₁ }
 
 pub returns : goal.returns
 returns g c =
     let l = c.loop-i in
-    kept_all (g.S.RuleSource.meaning c.args.source) c.rule-count-total.result (g.T.RuleTest.passes c.args.test.now) l.i l.count l.numbers c.rule-count-total.ensures (omega arith) l.invariant.2
+    kept_all (g.S.RuleSource.meaning c.args.source) c.rule_count-total.result (g.T.RuleTest.passes c.args.test.now) l.i l.count l.numbers c.rule_count-total.ensures (omega arith) l.invariant.2

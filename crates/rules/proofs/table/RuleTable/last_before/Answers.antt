@@ -7,9 +7,9 @@ use Rattle.rules.proofs.table.RuleTable.last_before.Goals as goal
 pub returns-then-literal : goal.returns-then-literal
 returns-then-literal c =
     let r = last_rule (program c.args.self.now) in
-    c.last-between.ensures ∙ ap (λ (q : Rule). last_of q.pos) c.last-entry-last.ensures.lies ∙ sym (ap (λ (s : Bool). last_of (cond s r.pos r.neg)) c.if-literal.true)
+    c.last_between.ensures ∙ ap (λ (q : Rule). last_of q.pos) c.last_entry-last.ensures.lies ∙ sym (ap (λ (s : Bool). last_of (cond s r.pos r.neg)) c.if-literal.true)
 
 pub returns : goal.returns
 returns c =
     let r = last_rule (program c.args.self.now) in
-    c.last-between-2.ensures ∙ ap (λ (q : Rule). last_of q.neg) c.last-entry-last.ensures.lies ∙ sym (ap (λ (s : Bool). last_of (cond s r.pos r.neg)) c.if-literal.false)
+    c.last_between-2.ensures ∙ ap (λ (q : Rule). last_of q.neg) c.last_entry-last.ensures.lies ∙ sym (ap (λ (s : Bool). last_of (cond s r.pos r.neg)) c.if-literal.false)

@@ -24,8 +24,8 @@ module _ (t : RuleTable) (l : Literal) (fits : literal_misfit (program t) l ≡ 
       let is = get_or_read es (len - 1) read inside r no_entry in
       ap₂ (λ (k : ℕ) (x : Entry). set es k x) (ap (λ k. k - 1) e) (n ∙ ap (λ (x : Entry). longer_entry x l.positive) (is ∙ ap (λ k. get_or es (k - 1) no_entry) e))
 
-pub overflow-sub-last : goal.overflow-sub-last
-overflow-sub-last c = omega (arith, some c.args.self.now c.args.literal c.requires)
+pub overflow_sub-last : goal.overflow_sub-last
+overflow_sub-last c = omega (arith, some c.args.self.now c.args.literal c.requires)
 
 pub index-requires : goal.index-requires
 index-requires c = omega (arith, some c.args.self.now c.args.literal c.requires)
@@ -42,19 +42,19 @@ longer-entry-requires c =
     let light = (literal_fits (program t) c.args.literal c.requires).light in
     (omega (arith, split, end, o.1), omega (arith, end, o.2, light, t.weighed))
 
-pub index-mut-requires : goal.index-mut-requires
-index-mut-requires c = omega (arith, some c.args.self.now c.args.literal c.requires)
+pub index_mut-requires : goal.index_mut-requires
+index_mut-requires c = omega (arith, some c.args.self.now c.args.literal c.requires)
 
-pub invariant-of-self : goal.invariant-of-self
-invariant-of-self c =
+pub invariant_of-self : goal.invariant_of-self
+invariant_of-self c =
     let t = c.args.self.now in
     let es = vec_items t.entries in
     let bs = vec_items t.body in
     let fits = literal_fits (program t) c.args.literal c.requires in
     let laid = literal_keeps bs c.args.literal.atom t.atoms es t.ordered t.last c.args.literal.positive fits t.weighed t.kept in
-    let same = same_entries t c.args.literal c.requires c.len-last.result c.index.result.now c.longer_entry.result (c.len-last.ensures ∙ t.entries.ok.0) c.index.ensures c.longer_entry.ensures in
-    let l : Laid t.atoms (set es (c.len-last.result - 1) c.longer_entry.result) (vec_items c.push.new.self) = subst₂ (Laid t.atoms) (sym same) (sym c.in-Ok.ensures.items) laid in
-    (l.ordered, (l.last, (l.weighed, (l.kept, tt))))
+    let same = same_entries t c.args.literal c.requires c.len-last.result c.index.result.now c.longer-entry.result (c.len-last.ensures ∙ t.entries.ok.0) c.index.ensures c.longer-entry.ensures in
+    let l : Laid t.atoms (set es (c.len-last.result - 1) c.longer-entry.result) (vec_items c.push.new.self) = subst₂ (Laid t.atoms) (sym same) (sym c.in-Ok.ensures.items) laid in
+    record { ordered = l.ordered; last = l.last; weighed = l.weighed; kept = l.kept }
 
 pub returns-in-Ok : goal.returns-in-Ok
 returns-in-Ok c =
@@ -62,6 +62,6 @@ returns-in-Ok c =
     let es = vec_items t.entries in
     let bs = vec_items t.body in
     let fits = literal_fits (program t) c.args.literal c.requires in
-    let same = same_entries t c.args.literal c.requires c.len-last.result c.index.result.now c.longer_entry.result (c.len-last.ensures ∙ t.entries.ok.0) c.index.ensures c.longer_entry.ensures in
+    let same = same_entries t c.args.literal c.requires c.len-last.result c.index.result.now c.longer-entry.result (c.len-last.ensures ∙ t.entries.ok.0) c.index.ensures c.longer-entry.ensures in
     ap₂ (laid_program t.atoms) same c.in-Ok.ensures.items
     ∙ literal_laid bs c.args.literal.atom t.atoms es t.ordered t.last c.args.literal.positive fits

@@ -6,8 +6,8 @@ use Rattle.rules.proofs.Fits.{rule_fits}
 use Rattle.rules.proofs.Laying.{Laid, rule_laid, rule_keeps}
 use Rattle.rules.proofs.table.RuleTable.push_rule.Goals as goal
 
-pub invariant-of-self : goal.invariant-of-self
-invariant-of-self c =
+pub invariant_of-self : goal.invariant_of-self
+invariant_of-self c =
     let t = c.args.self.now in
     let es = vec_items t.entries in
     let bs = vec_items t.body in
@@ -17,7 +17,7 @@ invariant-of-self c =
     subst (λ k. Laid t.atoms (es ++ record { head = c.args.head; start = k; split = k; end = k } ∷ []) bs) (sym at) (rule_keeps t.atoms es bs c.args.head (rule_fits (program t) c.args.head c.requires) laid) in
     let l : Laid t.atoms (vec_items c.push.new.self) bs =
     subst (λ xs. Laid t.atoms xs bs) (sym c.push.ensures.items) (cond_both (is_ok c.push.result) _ es (λ xs. Laid t.atoms xs bs) (λ _. grown) (λ _. laid)) in
-    (l.ordered, (l.last, (l.weighed, (l.kept, tt))))
+    record { ordered = l.ordered; last = l.last; weighed = l.weighed; kept = l.kept }
 
 pub returns-in-Ok : goal.returns-in-Ok
 returns-in-Ok c =

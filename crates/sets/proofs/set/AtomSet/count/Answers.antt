@@ -11,8 +11,8 @@ use Rattle.sets.proofs.set.AtomSet.count.Goals as goal
 pub loop-word-init : goal.loop-word-init
 loop-word-init c = (search rules, sym (length_rising_none (marked c.args.self.now.words)))
 
-pub overflow-add-ones : goal.overflow-add-ones
-overflow-add-ones c =
+pub overflow_add-ones : goal.overflow_add-ones
+overflow_add-ones c =
     let fit : get_or c.args.self.now.words c.loop-word.word-index 0 < 2 ^ 64 = search rules in
     omega (arith, ones-le 64 (get_or c.args.self.now.words c.loop-word.word-index 0) fit)
 

@@ -5,8 +5,8 @@ use Rattle.sets.proofs.Bitset.{marked_without}
 use Rattle.sets.proofs.Sets.{has_is_atom, has_low, has_high, has_less, size_less}
 use Rattle.sets.proofs.set.AtomSet.remove.Goals as goal
 
-pub overflow-sub-i : goal.overflow-sub-i
-overflow-sub-i c = has_low c.args.self.now c.args.atom (sym c.if-not-contains.ensures)
+pub overflow_sub-i : goal.overflow_sub-i
+overflow_sub-i c = has_low c.args.self.now c.args.atom (sym c.if-not-contains.ensures)
 
 pub bounds-self-i : goal.bounds-self-i
 bounds-self-i c = omega (arith, has_high c.args.self.now c.args.atom (sym c.if-not-contains.ensures))

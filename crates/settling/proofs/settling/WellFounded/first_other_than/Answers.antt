@@ -17,12 +17,12 @@ no_atom w s a no_such =
 pub loop-atom-init : goal.loop-atom-init
 loop-atom-init c a below = no_atom c.args.self.now c.args.set.now a (is_atom_zero a (omega arith))
 
-pub returns-then-not-settles-as : goal.returns-then-not-settles-as
-returns-then-not-settles-as c = (sym c.if-not-settles-as.ensures, λ b below no_such. both_ways (agrees c.args.self.now (has c.args.set.now) b) no_such (c.loop-atom.invariant b below))
+pub returns-then-not-settles_as : goal.returns-then-not-settles_as
+returns-then-not-settles_as c = (sym c.if-not-settles_as.ensures, λ b below no_such. both_ways (agrees c.args.self.now (has c.args.set.now) b) no_such (c.loop-atom.invariant b below))
 
 pub loop-atom-preserved : goal.loop-atom-preserved
 loop-atom-preserved c a below =
-    ⊎_elim (λ e. subst (λ b. agrees c.args.self.now (has c.args.set.now) b ≡ true) (sym e) (sym c.if-not-settles-as.ensures)) (λ d. c.loop-atom.invariant a (omega arith)) (cases_eq a c.loop-atom.atom)
+    ⊎_elim (λ e. subst (λ b. agrees c.args.self.now (has c.args.set.now) b ≡ true) (sym e) (sym c.if-not-settles_as.ensures)) (λ d. c.loop-atom.invariant a (omega arith)) (cases_eq a c.loop-atom.atom)
 
 pub returns : goal.returns
 returns c a =

@@ -9,5 +9,5 @@ pub returns : goal.returns
 unfolding allowed
 returns c =
     let S = sheet_of c.args.self.now in
-    ap (λ x. eqb x 1) (and_mask (c.job.result.heads / 2 ^ c.head-of.result) 1)
-    ∙ ap₂ (λ (j : Job) h. may_go j h) (c.job.ensures ∙ ap (job_at S) c.job-of.ensures) c.head-of.ensures
+    ap (λ x. eqb x 1) (and_mask (c.job.result.heads / 2 ^ c.head_of.result) 1)
+    ∙ ap₂ (λ (j : Job) h. may_go j h) (c.job.ensures ∙ ap (job_at S) c.job_of.ensures) c.head_of.ensures

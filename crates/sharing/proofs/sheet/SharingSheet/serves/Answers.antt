@@ -7,7 +7,7 @@ pub returns-then-allows : goal.returns-then-allows
 unfolding serves
 returns-then-allows c =
     let S = sheet_of c.args.self.now in
-    ap (λ x. eqb x c.args.job) c.job-of.ensures ∙ ap (λ t. t && eqb (job_of S c.args.pair) c.args.job) c.if-allows.ensures
+    ap (λ x. eqb x c.args.job) c.job_of.ensures ∙ ap (λ t. t && eqb (job_of S c.args.pair) c.args.job) c.if-allows.ensures
 
 pub returns-else-allows : goal.returns-else-allows
 unfolding serves

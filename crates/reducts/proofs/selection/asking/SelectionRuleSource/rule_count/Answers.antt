@@ -5,4 +5,4 @@ use Rattle.reducts.proofs.selection.asking.SelectionRuleSource.rule_count.Goals 
 pub returns : goal.returns
 returns g c =
     let s = c.args.self.now in
-    length_same (g.S.RuleSource.meaning s.source) s.total s.count s.numbers s.fits (sym c.rule-count.ensures ∙ c.if-rule-count-self.false)
+    length_same (g.S.RuleSource.meaning s.source) s.total s.count s.numbers s.fits (sym c.rule_count.ensures ∙ c.if-rule_count-self.false)

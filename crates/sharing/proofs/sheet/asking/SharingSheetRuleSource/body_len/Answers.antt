@@ -11,7 +11,7 @@ pub returns : goal.returns
 returns c =
     let S = sheet_of c.args.self.now in
     let s = c.subject.result in
-    c.count-passing.ensures
+    c.count_passing.ensures
     ∙ ap (λ n. length (rising (blocks S s) n)) c.pair_count.ensures.value
     ∙ body_size_of S s
     ∙ ap (λ (r : Rule). body_size r) c.subject.ensures

@@ -13,8 +13,8 @@ returns-then-atom-eq0 c =
     let S = sheet_of c.args.self.now in
     let s = c.subject.result in
     let k = c.args.place in
-    let at = c.nth-passing-atom.ensures ∙ ap (λ n. get_or (0 ∷ rising (blocks S s) n) k 0) c.pair_count.ensures.value in
-    literal_missing (blocks S s) (pair_count S) k c.nth-passing-atom.result at c.if-atom-eq0.true
+    let at = c.nth_passing-atom.ensures ∙ ap (λ n. get_or (0 ∷ rising (blocks S s) n) k 0) c.pair_count.ensures.value in
+    literal_missing (blocks S s) (pair_count S) k c.nth_passing-atom.result at c.if-atom-eq0.true
     ∙ ap (λ ls. get_or (plus 0 ∷ ls) k (plus 0)) (sym (body_of S s) ∙ ap (λ (r : Rule). body r) c.subject.ensures)
 
 pub returns : goal.returns
@@ -22,6 +22,6 @@ returns c =
     let S = sheet_of c.args.self.now in
     let s = c.subject.result in
     let k = c.args.place in
-    let at = c.nth-passing-atom.ensures ∙ ap (λ n. get_or (0 ∷ rising (blocks S s) n) k 0) c.pair_count.ensures.value in
-    literal_found (blocks S s) (pair_count S) k c.nth-passing-atom.result at (omega arith)
+    let at = c.nth_passing-atom.ensures ∙ ap (λ n. get_or (0 ∷ rising (blocks S s) n) k 0) c.pair_count.ensures.value in
+    literal_found (blocks S s) (pair_count S) k c.nth_passing-atom.result at (omega arith)
     ∙ ap (λ ls. get_or (plus 0 ∷ ls) k (plus 0)) (sym (body_of S s) ∙ ap (λ (r : Rule). body r) c.subject.ensures)
