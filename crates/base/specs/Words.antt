@@ -1,6 +1,6 @@
 -- The kind and the payload of a word. Assumes nothing.
 use Rattle.std.specs.Prelude.{ℕ, zero, suc, ◌+◌, ◌*◌, ◌/◌, ◌%◌, ◌^◌, ◌<◌, List}
-use Rattle.std.specs.List.{AllByRecursion as All}
+use Rattle.std.specs.List.{AllByRecursion}
 use Rattle.base.specs.declared.words.Kind.{Kind}
 use Rattle.base.specs.declared.words.Kind.TheVariants.{Head, Positive, Negative, Member, TrueNode, FalseNode, Link, Opening}
 
@@ -38,4 +38,4 @@ word k p = code k * 2 ^ 29 + p
 
 -- words have 32 bits
 abbrev pub Words : List ℕ → Type 0
-Words ws = All (λ w. w < 2 ^ 32) ws
+Words ws = AllByRecursion (λ w. w < 2 ^ 32) ws

@@ -1,6 +1,6 @@
 -- The rising list of the numbers that pass a test, by its members; and the atoms of rules. Assumes nothing.
 use Rattle.std.proofs.Common.{◌≡◌, ℕ, zero, suc, ◌<◌, ◌≤◌, Bool, true, false, cond, ◌⊎◌, List, [], ◌∷◌, ◌++◌, sym, refl, ap, ◌∙◌, subst, inl, inr, ⊎_elim, arith}
-use Rattle.std.specs.List.{AllByRecursion as All}
+use Rattle.std.specs.List.{AllByRecursion}
 use Rattle.std.proofs.lemmas.Bool.{cases_eq}
 use Rattle.std.proofs.lemmas.List.{append-nil}
 use Rattle.sets.specs.Sets.{Atoms, In, rising}
@@ -51,7 +51,7 @@ run_bounds low high [] a r m = absurd m
 run_bounds low high (x ∷ xs) a r (inl e) = (omega (arith, r.0, e), omega (arith, r.1, e))
 run_bounds low high (x ∷ xs) a r (inr m) = let o = run_bounds x high xs a r.2 m in (omega (arith, r.0, o.0), o.1)
 
-all_in : {A : Type 0} (Q : A → Type 0) (xs : List A) (x : A) → All Q xs → x ∈ xs → Q x
+all_in : {A : Type 0} (Q : A → Type 0) (xs : List A) (x : A) → AllByRecursion Q xs → x ∈ xs → Q x
 all_in Q [] x all m = absurd m
 all_in Q (y ∷ ys) x all (inl e) = subst Q (sym e) all.0
 all_in Q (y ∷ ys) x all (inr m) = all_in Q ys x all.1 m

@@ -2,7 +2,7 @@
 use Rattle.std.specs.Prelude.{◌≡◌, ℕ, zero, suc, ◌+◌, ◌-◌, ◌<◌, ◌≤◌, Bool, true, false, cond, List, [], ◌∷◌, map, length, get_or, take, drop, ◌==◌, slice_index_or, refl}
 use Rattle.std.proofs.Common.{ap, arith, eqb-true}
 use Rattle.std.proofs.Math.Logic.{∥∥₁_elim}
-use Rattle.std.specs.List.{AllByRecursion as All}
+use Rattle.std.specs.List.{AllByRecursion}
 use Rattle.std.proofs.ByRecursion.{All-get_or, All-map, All-weaker}
 use Rattle.std.proofs.lemmas.List.{length-map, drop_more}
 use Rattle.rules.specs.Program.{Rule, Program, Rising, body_size, weight, RuleOver, Within}
@@ -29,7 +29,7 @@ module _ (P : Program) where
   at_number zero h = absurd (omega arith)
   at_number (suc x) h = ap (λ k. get_or P.rules k no_rule) (omega arith)
 
-  numbers_over : Within P → (low : ℕ) (xs : List ℕ) → Rising low (length P.rules) xs → All (RuleOver P.atoms) (map (rule_at P) xs)
+  numbers_over : Within P → (low : ℕ) (xs : List ℕ) → Rising low (length P.rules) xs → AllByRecursion (RuleOver P.atoms) (map (rule_at P) xs)
   numbers_over w low [] h = tt
   numbers_over w low (x ∷ xs) h =
       let inside : x - 1 < length P.rules = omega arith in

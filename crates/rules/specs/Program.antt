@@ -1,6 +1,6 @@
 -- Ground normal rules, and the programs that a rule source may mean. Assumes nothing.
 use Rattle.std.specs.Prelude.{◌≡◌, ℕ, ◌+◌, ◌<◌, ◌≤◌, ◌⊎◌, List, [], ◌∷◌, length}
-use Rattle.std.specs.List.{AllByRecursion as All}
+use Rattle.std.specs.List.{AllByRecursion}
 use Rattle.sets.specs.Limits.{max_atoms}
 use Rattle.rules.specs.Limits.{max_rules, max_body, max_size}
 
@@ -48,4 +48,4 @@ pub record Within (P : Program) : Type 0 where
   pub few_atoms : P.atoms ≤ max_atoms
   pub few_rules : length P.rules ≤ max_rules
   pub light : weight P.rules ≤ max_size
-  pub over : All (RuleOver P.atoms) P.rules
+  pub over : AllByRecursion (RuleOver P.atoms) P.rules

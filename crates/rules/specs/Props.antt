@@ -3,7 +3,7 @@ use Rattle.std.specs.Prelude.{ℕ, List, [], ◌∷◌}
 use Rattle.std.proofs.Math.Logic.{∥∥₁_elim}
 use mathlib.Core.HLevel.{Unit-prop, ×_prop, ×₃_prop}
 use Rattle.std.proofs.Math.Bridge.{le_prop}
-use Rattle.std.specs.List.{AllByRecursion as All}
+use Rattle.std.specs.List.{AllByRecursion}
 use Rattle.rules.specs.Program.{Rule, Program, Rising, RuleOver, Within}
 
 pub rising_prop : (low high : ℕ) (xs : List ℕ) → IsProp (Rising low high xs)
@@ -19,7 +19,7 @@ rule_over_prop n r a b = λ i. record {
   short = le_prop a.short b.short i;
 }
 
-all_over_prop : (n : ℕ) (rs : List Rule) → IsProp (All (RuleOver n) rs)
+all_over_prop : (n : ℕ) (rs : List Rule) → IsProp (AllByRecursion (RuleOver n) rs)
 all_over_prop n [] = Unit-prop
 all_over_prop n (r ∷ rs) = ×_prop (rule_over_prop n r) (all_over_prop n rs)
 

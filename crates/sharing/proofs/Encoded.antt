@@ -1,6 +1,6 @@
 -- Words are taken exactly if they are those of a sheet within the limits. Assumes nothing.
 use Rattle.std.proofs.Common.{◌≡◌, ℕ, zero, suc, ◌+◌, ◌*◌, ◌/◌, ◌%◌, ◌^◌, ◌<◌, ◌≤◌, List, [], ◌∷◌, ◌++◌, map, length, Some, None, Ok, Err, Option, Result, sym, refl, ap, ◌∙◌, subst, ap₂, arith, pow_mono}
-use Rattle.std.specs.List.{AllByRecursion as All}
+use Rattle.std.specs.List.{AllByRecursion}
 use Rattle.std.proofs.lemmas.Nat.{shr_split, shr_high, mod_low}
 use Rattle.std.proofs.lemmas.List.{append_assoc, append-nil}
 use Rattle.base.specs.Words.{kind, payload, word, Words}
@@ -83,7 +83,7 @@ pub record Jobs (left : ℕ) (S : Sheet) (ws : List ℕ) (Q : Sheet) : Type 0 wh
   pub grown : Q ≡ with_jobs S jobs
   pub encoded : ws ≡ map job_word jobs
   pub all : length jobs ≡ left
-  pub over : All (JobOver S.heads) jobs
+  pub over : AllByRecursion (JobOver S.heads) jobs
 
 jobs_encoded : (left : ℕ) (S : Sheet) (place : ℕ) (ws : List ℕ) (Q : Sheet) → Words ws → read_jobs left S place ws ≡ Ok Q → Jobs left S ws Q
 jobs_encoded zero S place [] Q small e = record { jobs = []; grown = same_sheet (sym e ∙ read_end S place) ∙ sym (with_none S); encoded = refl; all = refl; over = tt }
@@ -101,7 +101,7 @@ jobs_encoded (suc left) S place (w ∷ ws) Q small e =
       over = (job_over S.heads w small.0 t.0, later.over);
     }
 
-pub jobs_taken : (S : Sheet) (place : ℕ) (js : List Job) → S.heads ≤ max_heads → All (JobOver S.heads) js → read_jobs (length js) S place (map job_word js) ≡ Ok (with_jobs S js)
+pub jobs_taken : (S : Sheet) (place : ℕ) (js : List Job) → S.heads ≤ max_heads → AllByRecursion (JobOver S.heads) js → read_jobs (length js) S place (map job_word js) ≡ Ok (with_jobs S js)
 jobs_taken S place [] few over = read_end S place ∙ ap Ok (sym (with_none S))
 jobs_taken S place (job ∷ js) few over =
     let ws = map job_word js in

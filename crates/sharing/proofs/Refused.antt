@@ -1,6 +1,6 @@
 -- A refusal's place is the first at which the words stop being the beginning of a sheet's words. Assumes nothing.
 use Rattle.std.proofs.Common.{◌≡◌, ℕ, zero, suc, ◌+◌, ◌^◌, ◌<◌, ◌≤◌, ◌⊎◌, List, [], ◌∷◌, ◌++◌, map, length, take, replicate, Some, None, Ok, Err, Option, Result, sym, refl, ap, ◌∙◌, subst, inl, inr, ⊎_elim, arith}
-use Rattle.std.specs.List.{AllByRecursion as All}
+use Rattle.std.specs.List.{AllByRecursion}
 use Rattle.std.proofs.lemmas.Nat.{pow_pos}
 use Rattle.std.proofs.ByRecursion.{All-append, All-take}
 use Rattle.std.proofs.lemmas.List.{length-replicate}
@@ -43,7 +43,7 @@ unfolding word
 blanks_small zero = tt
 blanks_small (suc left) = (omega arith, blanks_small left)
 
-blanks_over : (H left : ℕ) → All (JobOver H) (replicate left no_job)
+blanks_over : (H left : ℕ) → AllByRecursion (JobOver H) (replicate left no_job)
 blanks_over H zero = tt
 blanks_over H (suc left) = (record { on_heads = pow_pos H; inked = omega arith }, blanks_over H left)
 

@@ -2,7 +2,7 @@
 use Rattle.std.specs.Prelude.{◌≡◌, ℕ, zero, suc, ◌+◌, ◌-◌, ◌*◌, ◌/◌, ◌%◌, ◌<◌, ◌≤◌, Bool, true, false, cond, not, ◌&&◌, ◌||◌, ◌⊎◌, List, [], ◌∷◌, ◌++◌, map, length, ◌==◌}
 use Rattle.std.proofs.Math.Logic.{inl, inr, ⊎_elim}
 use Rattle.std.proofs.Common.{sym, ap, subst, ◌∙◌, add-mul, arith}
-use Rattle.std.specs.List.{range_with_len, AllByRecursion as All}
+use Rattle.std.specs.List.{range_with_len, AllByRecursion}
 use Rattle.std.proofs.lemmas.Nat.{div-add-mod', mod_below, mul-le}
 use Rattle.std.proofs.lemmas.List.FromFn.{length-range_with_len, get_or-range_with_len}
 use Rattle.std.proofs.ByRecursion.{All-append, All-map, All-weaker, All-from_get_or}
@@ -35,7 +35,7 @@ rising_rises p (suc n) = by_test (p (suc n)) (rising_rises p n)
     by_test true r = rises_push 0 n (suc n) (suc n) (rising p n) r (omega arith) (omega arith) (omega arith)
     by_test false r = subst (Rising 0 (suc n)) (sym (append-nil (rising p n))) (rises_higher 0 n (suc n) (rising p n) (omega arith) r)
 
-pub rises_between : (low high : ℕ) (xs : List ℕ) → Rising low high xs → All (λ a. (low < a) × (a ≤ high)) xs
+pub rises_between : (low high : ℕ) (xs : List ℕ) → Rising low high xs → AllByRecursion (λ a. (low < a) × (a ≤ high)) xs
 rises_between low high [] r = tt
 rises_between low high (x ∷ xs) r =
     ((r.0, r.1), All-weaker (λ a. (x < a) × (a ≤ high)) (λ a. (low < a) × (a ≤ high)) (λ a h. (omega (arith, r.0, h.0), h.1)) xs (rises_between x high xs r.2))
@@ -182,7 +182,7 @@ module _ (S : Sheet) (limited : Limited S) where
         few,
       )
 
-  all_short : All Short (sheet_program S).rules
+  all_short : AllByRecursion Short (sheet_program S).rules
   all_short =
       let pairs = rising (allowed S) (pair_count S) in
       let jobs = range_with_len 0 (length S.jobs) in
@@ -192,12 +192,12 @@ module _ (S : Sheet) (limited : Limited S) where
       (All-map Short (waiting_rule S) jobs
       (All-weaker (λ j. j < length S.jobs) (λ j. Short (waiting_rule S j)) waiting_short jobs waiting))
     where
-      waiting : All (λ j. j < length S.jobs) (range_with_len 0 (length S.jobs))
+      waiting : AllByRecursion (λ j. j < length S.jobs) (range_with_len 0 (length S.jobs))
       waiting =
           let J = length S.jobs in
           All-from_get_or (λ j. j < J) (range_with_len 0 J) 0 (λ i h. omega (arith, length-range_with_len 0 J, get_or-range_with_len 0 J i 0 (omega (arith, length-range_with_len 0 J))))
 
-  light_rules : (rs : List Rule) → All Short rs → weight rs ≤ (1 + max_heads + max_jobs) * length rs
+  light_rules : (rs : List Rule) → AllByRecursion Short rs → weight rs ≤ (1 + max_heads + max_jobs) * length rs
   light_rules [] a = omega arith
   light_rules (r ∷ rs) a = omega (arith, light_rules rs a.1, a.0.1)
 

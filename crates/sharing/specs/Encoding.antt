@@ -1,6 +1,6 @@
 -- Sharing sheets as words: what each word must be in its place, and which sheet the words mean. Assumes nothing.
 use Rattle.std.specs.Prelude.{◌≡◌, ℕ, zero, suc, ◌+◌, ◌*◌, ◌/◌, ◌%◌, ◌^◌, ◌<◌, Bool, not, ◌&&◌, List, [], ◌∷◌, ◌++◌, map, length, Some, None, Ok, Err, Option, Result, nat_le}
-use Rattle.std.specs.List.{AllByRecursion as All}
+use Rattle.std.specs.List.{AllByRecursion}
 use Rattle.base.specs.Words.{kind, payload, word}
 use Rattle.base.specs.Loading.{or_refuse}
 use Rattle.base.specs.declared.words.Kind.{Kind}
@@ -35,7 +35,7 @@ pub record JobOver (H : ℕ) (job : Job) : Type 0 where
 -- the words are those of a sheet within the limits
 pub record IsSheet (S : Sheet) (ws : List ℕ) : Type 0 where
   pub limited : Limited S
-  pub over : All (JobOver S.heads) S.jobs
+  pub over : AllByRecursion (JobOver S.heads) S.jobs
   pub encoded : ws ≡ sheet_words S
 
 -- the counts in the payload of an opening word
