@@ -5,6 +5,7 @@ use Rattle.base.specs.Buffers.{WroteInRoom}
 use Rattle.base.specs.declared.words.Kind.TheVariants.{TrueNode, FalseNode}
 use Rattle.base.specs.declared.refusal.Refusal.{Refusal}
 use Rattle.base.specs.declared.refusal.Refusal.TheVariants as refusal
+use Rattle.base.specs.declared.refusal.Refusal.TheVariants.{NoPlan, NoSuchAtom}
 use Rattle.sets.specs.Sets.{Atoms, In, Least}
 use Rattle.rules.specs.Program.{◌∈◌, Program, Rising}
 use Rattle.rules.specs.Growing.{names}
@@ -122,8 +123,8 @@ SettledTold P old r new = (ws : List ℕ) × SettledWords P ws × WroteInRoom li
 
 -- status tells whether an atom of the rules is in the plan
 abbrev pub status_answer : ℕ → Option Atoms → ℕ → Result Bool Refusal
-status_answer n None a = Err refusal.NoPlan
-status_answer n (Some plan) a = cond (names n a) (Ok (plan a)) (Err (refusal.NoSuchAtom a))
+status_answer n None a = Err NoPlan
+status_answer n (Some plan) a = cond (names n a) (Ok (plan a)) (Err (NoSuchAtom a))
 
 -- report needs a hold list and then room, and writes the plan's atoms with their signs and letters
 abbrev pub Reported : Program → Option Atoms → Option Atoms → List ℕ → Result ℕ Refusal → List ℕ → Type 0

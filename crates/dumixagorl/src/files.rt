@@ -6,7 +6,7 @@ use std::io;
 use std::io::{ErrorKind, Read};
 
 // A missing file is empty.
-pub(crate) fn read_or_empty(rt: &HostRuntime, path: &str) -> anyhow::Result<Vec<u8>> {
+pub(crate) fn read_file(rt: &HostRuntime, path: &str) -> anyhow::Result<Vec<u8>> {
     match open_and_read(rt, path) {
         Ok(bytes) => Ok(bytes),
         Err(e) => {

@@ -9,7 +9,7 @@ use console::{
     Command, FileCommand, HELP, SourceKind, command_of, file_command_of, judge_files, settle_file,
     source_of,
 };
-use files::{read_named, read_or_empty};
+use files::{read_file, read_named};
 use replay::replay_lines;
 use std::env;
 use std::env::Args;
@@ -63,8 +63,8 @@ fn run_file_command(rt: &HostRuntime, word: &str, args: &mut Args) -> anyhow::Re
 }
 
 fn judge(rt: &HostRuntime) -> anyhow::Result<bool> {
-    let book = read_or_empty(rt, "book")?;
-    let plan = read_or_empty(rt, "plan")?;
+    let book = read_file(rt, "book")?;
+    let plan = read_file(rt, "plan")?;
     let outcome = judge_files(rt.alloc(), book.as_slice(), plan.as_slice())?;
     rt.print(outcome.text.as_str())?;
     Ok(outcome.passed)

@@ -27,4 +27,4 @@ without_negative r = record { head = r.head; pos = r.pos; neg = [] }
 
 -- the reduct of Gelfond and Lifschitz: rules with a negative atom in X are left out, and the rest lose their negative atoms
 abbrev pub reduct : Program → Atoms → Program
-reduct P X = record { atoms = P.atoms; rules = map without_negative (only (unblocked X) P).rules }
+reduct P X = record { atoms = P.atoms; rules = map without_negative (filter (λ r. not (meets X r.neg)) P.rules) }

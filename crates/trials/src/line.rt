@@ -6,12 +6,7 @@ pub enum Line {
     // Empty, or a comment.
     Nothing,
     Book(Vec<u32>),
-    Sharing(Vec<u32>),
     Plan(Vec<u32>),
-    Hold(Vec<u32>),
-    Propose { room: u32 },
-    Settled { room: u32 },
-    Report { room: u32 },
     Status(u32),
     Unknown,
 }
@@ -22,37 +17,22 @@ pub(crate) fn read_line(heap: Global, text: &str) -> Result<Line, AllocError> {
         return Ok(Line::Nothing);
     }
     let (name, rest) = text.split_once(' ').unwrap_or((text, ""));
-    match name {
-        "book" | "sharing" | "plan" | "hold" => read_list(heap, name, rest),
-        _ => Ok(read_question(name, rest.trim())),
+    if name == "status" {
+        return Ok(match read_number(rest.trim()) {
+            Some(atom) => Line::Status(atom),
+            None => Line::Unknown,
+        });
     }
-}
-
-// A name with words.
-fn read_list(heap: Global, name: &str, rest: &str) -> Result<Line, AllocError> {
     let Some(words) = read_words(heap, rest)? else {
         return Ok(Line::Unknown);
     };
-    Ok(match name {
-        "book" => Line::Book(words),
-        "sharing" => Line::Sharing(words),
-        "plan" => Line::Plan(words),
-        _ => Line::Hold(words),
+    Ok(if name == "book" {
+        Line::Book(words)
+    } else if name == "plan" {
+        Line::Plan(words)
+    } else {
+        Line::Unknown
     })
-}
-
-// A name with a number.
-fn read_question(name: &str, rest: &str) -> Line {
-    let Some(number) = read_number(rest) else {
-        return Line::Unknown;
-    };
-    match name {
-        "propose" => Line::Propose { room: number },
-        "settled" => Line::Settled { room: number },
-        "report" => Line::Report { room: number },
-        "status" => Line::Status(number),
-        _ => Line::Unknown,
-    }
 }
 
 // Words between spaces, if all are words.

@@ -1,4 +1,4 @@
-// Reads rules, plans, hold lists and questions, one to a line, and prints an answer to each.
+// Reads books, plans and questions, one to a line, and prints an answer to each.
 #![tactic(auto)]
 
 mod answer;
@@ -15,7 +15,7 @@ fn main(rt: HostRuntime) -> io::Result<()> {
     for text in rt.lines(heap) {
         let line = read_line(heap, text?.as_str())?;
         if let Some(answer) = trial.answer(heap, &line)? {
-            print!(rt; "{answer}")?;
+            println!(rt; "{answer}")?;
         }
     }
     Ok(())
