@@ -14,14 +14,16 @@ use replay::replay_lines;
 use std::env;
 use std::env::Args;
 use std::io::Write;
+use std::process::ExitCode;
 
-fn main(rt: HostRuntime) -> anyhow::Result<()> {
+// A refusal ends with status 1 and no word on standard error, so no error is returned here.
+fn main(rt: HostRuntime) -> ExitCode {
     match run(&rt) {
-        Ok(true) => Ok(()),
-        Ok(false) => Err(anyhow!("refused")),
+        Ok(true) => ExitCode::SUCCESS,
+        Ok(false) => ExitCode::FAILURE,
         Err(e) => {
-            eprintln!(rt; "dumixagorl: {e}")?;
-            Err(e)
+            let _ = eprintln!(rt; "dumixagorl: {e}");
+            ExitCode::FAILURE
         }
     }
 }
