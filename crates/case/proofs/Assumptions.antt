@@ -1,5 +1,5 @@
 -- What the verdict on a hold list rests on. Assumes nothing.
-use Rattle.std.proofs.Common.{◌≡◌, ℕ, false, ◌⊎◌, ◌↔◌, Ok, Err, Result, refl, ⊎_elim, arith}
+use Rattle.std.proofs.Common.{◌≡◌, ℕ, false, ◌↔◌, Ok, Err, Result, refl, ⊎_elim, arith}
 use Rattle.std.proofs.lemmas.Bool.{cases_Bool, both_ways}
 use Rattle.sets.specs.Sets.{Atoms, In, Least}
 use Rattle.base.specs.declared.refusal.Refusal.{Refusal}

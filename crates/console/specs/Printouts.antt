@@ -1,5 +1,5 @@
 -- What the program tells of a book, a plan and a hold list. Assumes nothing.
-use Rattle.std.specs.Prelude.{◌≡◌, ℕ, Bool, true, false, List, map, take, Some, Ok, Err, Result}
+use Rattle.std.specs.Prelude.{◌≡◌, ℕ, Bool, true, List, map, take, Some, Ok, Err, Result}
 use Rattle.sets.specs.Sets.{Atoms}
 use Rattle.base.specs.Words.{kind, payload}
 use Rattle.base.specs.declared.misfit.Misfit.TheVariants.{NoForm}

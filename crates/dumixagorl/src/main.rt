@@ -6,8 +6,8 @@ mod replay;
 
 use anyhow::anyhow;
 use console::{
-    Command, FileCommand, HELP, SourceKind, command_of, file_command_of, judge_files, settle_file,
-    source_of,
+    Command, FILE_HELP, FileCommand, HELP, SourceKind, command_of, file_command_of, judge_files,
+    settle_file, source_of,
 };
 use files::{read_file, read_named};
 use replay::replay_lines;
@@ -39,6 +39,7 @@ fn run(rt: &HostRuntime) -> anyhow::Result<bool> {
         Command::Help => {
             no_more(&mut args)?;
             rt.print(HELP)?;
+            rt.print(FILE_HELP)?;
             Ok(true)
         }
         Command::Unknown => run_file_command(rt, word.as_str(), &mut args),

@@ -1,5 +1,5 @@
 -- What rules derive is the least set that is closed under the reduct. Assumes nothing.
-use Rattle.std.proofs.Common.{◌≡◌, ℕ, true, false, ◌⊎◌, List, [], ◌∷◌, filter, sym, refl, ap, ◌∙◌, subst, inl, inr, ⊎_elim}
+use Rattle.std.proofs.Common.{◌≡◌, ℕ, true, List, [], ◌∷◌, filter, sym, refl, ap, ◌∙◌, subst, inl, inr, ⊎_elim}
 use Rattle.std.proofs.lemmas.Bool.{or_cases, or_left, or_right, cases_Bool, not_from_false, not-true, both_ways, false≢true}
 use Rattle.rules.specs.Program.{◌∈◌, Rule, Program}
 use Rattle.sets.specs.Sets.{Atoms, In}

@@ -3,7 +3,6 @@ use Rattle.std.proofs.Common.{◌≡◌, List, [], ◌∷◌, ◌++◌, length, 
 use Rattle.std.proofs.lemmas.List.{map-append, length-append}
 use Rattle.sets.specs.Sets.{Atoms}
 use Rattle.rules.specs.Program.{Program}
-use Rattle.runs.specs.Runs as runs
 use Rattle.runs.specs.Runs.{Event, calls_of, Stands}
 use Rattle.runs.specs.Steps.{Step}
 use Rattle.runs.specs.Traces.{call_of, answer_of, trace}

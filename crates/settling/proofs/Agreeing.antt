@@ -1,5 +1,5 @@
 -- A well-founded model agrees with a set exactly where the rules settle an atom so. Assumes nothing.
-use Rattle.std.proofs.Common.{◌≡◌, ℕ, true, false, cond, ◌⊎◌, ◌↔◌, sym, ap, ◌∙◌, ⊎_elim}
+use Rattle.std.proofs.Common.{◌≡◌, ℕ, true, false, cond, ◌↔◌, sym, ap, ◌∙◌, ⊎_elim}
 use Rattle.std.proofs.lemmas.Bool.{cases_Bool, both_ways}
 use Rattle.sets.specs.Sets.{Atoms, In, has, Least}
 use Rattle.rules.specs.Program.{Program}

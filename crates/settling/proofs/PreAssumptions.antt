@@ -1,5 +1,5 @@
 -- All pre-assumptions together are an assumption. Assumes nothing.
-use Rattle.std.proofs.Common.{◌≡◌, ℕ, zero, suc, not, ◌⊎◌, List, [], ◌∷◌, length, sym, refl, ap, subst, inl, inr, ⊎_elim, arith}
+use Rattle.std.proofs.Common.{◌≡◌, ℕ, zero, suc, ◌⊎◌, List, [], ◌∷◌, length, sym, refl, ap, subst, inl, inr, ⊎_elim, arith}
 use Rattle.std.proofs.lemmas.Bool.{cases_Bool, not_from_false, not-true, both_ways}
 use Rattle.sets.specs.Sets.{Atoms, In}
 use Rattle.rules.specs.Program.{◌∈◌, Rule, Program}

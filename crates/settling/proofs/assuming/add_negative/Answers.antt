@@ -1,5 +1,5 @@
 -- Each literal is passed over or its atom added, and all are passed.
-use Rattle.std.proofs.Common.{◌<◌, true, false, ◌⊎◌, sym, ap, ◌∙◌, subst, inl, inr, ⊎_elim, arith}
+use Rattle.std.proofs.Common.{◌<◌, sym, ap, ◌∙◌, subst, inl, inr, ⊎_elim, arith}
 use Rattle.std.proofs.lemmas.Bool.{false≢true, both_ways}
 use Rattle.sets.specs.Sets.{has, In}
 use Rattle.sets.proofs.Sets.{has_is_atom}

@@ -1,6 +1,6 @@
 -- A member is an atom, so that its word has it as its payload.
 use Rattle.std.proofs.Common.{◌≡◌, true, cond, Some, None, sym, ap, ◌∙◌, arith}
-use Rattle.base.specs.Words.{word, payload}
+use Rattle.base.specs.Words.{word}
 use Rattle.base.specs.declared.words.Kind.TheVariants.{Member}
 use Rattle.base.proofs.WordForms.{payload_small}
 use Rattle.sets.specs.Sets.{has}
