@@ -1,5 +1,5 @@
 -- The number and the value of every refusal. Assumes nothing.
-use Rattle.std.specs.Prelude.{ℕ}
+use Rattle.std.specs.Prelude.{ℕ, List, ◌++◌, codes, decimal}
 use Rattle.base.specs.declared.refusal.Refusal.{Refusal}
 use Rattle.base.specs.declared.refusal.Refusal.TheVariants as refusal
 use Rattle.base.specs.declared.misfit.Misfit.{Misfit}
@@ -49,3 +49,7 @@ refused_at misfit.NoForm place = refusal.NoForm place
 refused_at misfit.OutOfRange place = refusal.OutOfRange place
 refused_at misfit.NotRising place = refusal.NotRising place
 refused_at misfit.PastLimit place = refusal.PastLimit place
+
+-- what a refusal is printed as
+abbrev pub told : Refusal → List ℕ
+told f = codes "refused " ++ decimal (number_of f) ++ codes " at " ++ decimal (value_of f)

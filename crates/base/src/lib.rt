@@ -11,4 +11,4 @@ pub use loading::LoadError;
 pub use misfit::Misfit;
 pub use refusal::Refusal;
 pub use stack::Stack;
-pub use words::{Kind, kind_of, payload_of, word_of};
+pub use words::{Kind, Word};

@@ -4,7 +4,7 @@ ghost use Rattle.base.specs.Refusals.{refused_at};
 
 use crate::Refusal;
 
-#[derive(Clone, Copy)]
+#[derive(Clone, Copy, PartialEq, Eq, Debug)]
 pub enum Misfit {
     // No form has such a word there.
     NoForm,

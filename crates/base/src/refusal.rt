@@ -1,6 +1,8 @@
 // Every cause for which input is refused, with the number and the value that it is known by.
-ghost use Rattle.std.specs.Prelude.{◌≡◌};
-ghost use Rattle.base.specs.Refusals.{number_of, value_of};
+ghost use Rattle.std.specs.Prelude.{◌≡◌, Some};
+ghost use Rattle.base.specs.Refusals.{number_of, value_of, told};
+
+use std::fmt;
 
 #[derive(Clone, Copy, PartialEq, Eq, Debug)]
 pub enum Refusal {
@@ -85,5 +87,14 @@ impl Refusal {
             Refusal::BufferTooShort { needed } => needed,
             Refusal::NoPlan | Refusal::NoHoldList | Refusal::WrongRoot => 0,
         }
+    }
+}
+
+// The number and the value, without the end of the line.
+impl fmt::Display for Refusal {
+    ghost output = { λ r. Some (told r) };
+
+    fn fmt<W: fmt::Write>(&self, f: &mut fmt::Formatter<W>) -> fmt::Result {
+        write!(f, "refused {} at {}", self.number(), self.value())
     }
 }

@@ -1,4 +1,4 @@
-// The waiting list: a stack in a slice that is lent to it.
+// The waiting list: a stack in a slice that is lent to it, as the calls that use it never allocate.
 mod calls;
 
 ghost use Rattle.std.specs.Prelude.{◌≤◌, length};

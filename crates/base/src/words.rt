@@ -2,7 +2,7 @@
 ghost use Rattle.std.specs.Prelude.{◌≡◌};
 ghost use Rattle.base.specs.Words.{code, kind, payload, word};
 
-#[derive(Clone, Copy)]
+#[derive(Clone, Copy, PartialEq, Eq, Debug)]
 pub enum Kind {
     Head,
     Positive,
@@ -14,12 +14,19 @@ pub enum Kind {
     Opening,
 }
 
-impl Kind {
-    // The number that it has in a word.
-    fn code(self) -> u32
-        ensures { result ≡ code self }
-    {
-        match self {
+// A word, taken apart.
+#[derive(Clone, Copy, PartialEq, Eq, Debug)]
+pub struct Word {
+    pub kind: Kind,
+    pub payload: u32,
+}
+
+// The number that a kind has in a word.
+impl From<Kind> for u32 {
+    ghost from_gives = { λ k n. n ≡ code k };
+
+    fn from(kind: Kind) -> u32 {
+        match kind {
             Kind::Head => 0,
             Kind::Positive => 1,
             Kind::Negative => 2,
@@ -32,7 +39,27 @@ impl Kind {
     }
 }
 
-pub fn kind_of(word: u32) -> Kind
+impl From<u32> for Word {
+    ghost from_gives = { λ w r. r ≡ record { kind = kind w; payload = payload w } };
+
+    fn from(word: u32) -> Word {
+        Word {
+            kind: kind_of(word),
+            payload: payload_of(word),
+        }
+    }
+}
+
+// Of a payload, a word has the low 29 bits.
+impl From<Word> for u32 {
+    ghost from_gives = { λ r w. w ≡ word r.kind (payload r.payload) };
+
+    fn from(word: Word) -> u32 {
+        (u32::from(word.kind) << 29) + payload_of(word.payload)
+    }
+}
+
+fn kind_of(word: u32) -> Kind
     ensures { result ≡ kind word }
 {
     match word >> 29 {
@@ -47,15 +74,8 @@ pub fn kind_of(word: u32) -> Kind
     }
 }
 
-pub fn payload_of(word: u32) -> u32
+fn payload_of(word: u32) -> u32
     ensures { result ≡ payload word }
 {
     word & 0x1fff_ffff
-}
-
-// The word of a kind with the low 29 bits of a number as its payload.
-pub fn word_of(kind: Kind, number: u32) -> u32
-    ensures { result ≡ word kind (payload number) }
-{
-    (kind.code() << 29) + payload_of(number)
 }

@@ -10,6 +10,11 @@ use Rattle.base.specs.declared.misfit.Misfit.{Misfit}
 use Rattle.base.specs.declared.misfit.Misfit.TheVariants.{NoForm, PastLimit}
 use Rattle.base.specs.declared.refusal.Refusal.{Refusal}
 use Rattle.base.specs.declared.refusal.Refusal.TheVariants as refusal
+use Rattle.base.specs.declared.loading.LoadError.{LoadError}
+use Rattle.base.specs.declared.loading.LoadError.TheVariants as load_error
+use Rattle.base.specs.Refusals.{refused_at}
+use Rattle.rules.specs.declared.rejection.Rejection.{Rejection}
+use Rattle.rules.specs.declared.rejection.Rejection.TheVariants as rejection
 use Rattle.rules.specs.Program.{Rule, Program, Within}
 use Rattle.rules.specs.Asked.{plus, minus}
 use Rattle.rules.specs.Growing.{with_rule, with_literal, rule_misfit, literal_misfit, cause_if}
@@ -85,3 +90,8 @@ opening_of_words (w ∷ ws) = or_refuse (opening_misfit (kind w) (payload w)) 0 
 abbrev pub book_of_words : List ℕ → Result Program Refusal
 book_of_words [] = Err (refusal.NoForm 0)
 book_of_words (w ∷ ws) = or_refuse (opening_misfit (kind w) (payload w)) 0 (read_on (bare (payload w)) 1 ws)
+
+-- why words are not loaded whose word at a place was rejected
+abbrev pub rejected_at : ℕ → Rejection → LoadError
+rejected_at place (rejection.Unfit m) = load_error.Refused (refused_at m place)
+rejected_at place rejection.OutOfMemory = load_error.OutOfMemory

@@ -1,11 +1,11 @@
 // Reads a book word by word: the opening word, then heads, each with its positive and its negative atoms.
-ghost use Rattle.std.specs.Prelude.{◌<◌};
+ghost use Rattle.std.specs.Prelude.{◌≡◌, ◌^◌, ◌<◌};
 ghost use Rattle.base.specs.Loading.{Read};
 ghost use Rattle.rules.specs.Growing.{Added};
 ghost use Rattle.rules.specs.Tables.{program};
-ghost use Rattle.books.specs.Books.{book_of_words, opening_of_words, word_misfit, with_word};
+ghost use Rattle.books.specs.Books.{book_of_words, opening_of_words, word_misfit, with_word, rejected_at};
 
-use base::{Kind, LoadError, Misfit, Refusal, kind_of, payload_of};
+use base::{Kind, LoadError, Misfit, Refusal, Word};
 use rules::{Literal, Rejection, RuleTable};
 use std::alloc::Global;
 
@@ -17,32 +17,34 @@ pub(crate) fn read_book(heap: Global, words: &[u32]) -> Result<RuleTable, LoadEr
     ensures { Read (book_of_words words.now) program result }
 {
     let mut table = read_opening(heap, words)?;
-    for place in 1..words.len() {
-        match add_word(&mut table, place, words[place]) {
-            Ok(()) => {}
-            Err(Rejection::Unfit(misfit)) => {
-                return Err(LoadError::Refused(misfit.at(place as u32)));
-            }
-            Err(Rejection::OutOfMemory) => return Err(LoadError::OutOfMemory),
-        }
+    for (place, word) in words.iter().enumerate().skip(1) {
+        add_word(&mut table, place, *word).map_err(|rejection| rejected_at(place, rejection))?;
     }
     Ok(table)
+}
+
+// Why a book is not loaded whose word at a place was not added.
+fn rejected_at(place: usize, rejection: Rejection) -> LoadError
+    requires { place < 2 ^ 32 }
+    ensures { result ≡ rejected_at place rejection }
+{
+    match rejection {
+        Rejection::Unfit(misfit) => LoadError::from(misfit.at(place as u32)),
+        Rejection::OutOfMemory => LoadError::OutOfMemory,
+    }
 }
 
 // No rules yet, over the atoms that the opening word counts.
 fn read_opening(heap: Global, words: &[u32]) -> Result<RuleTable, LoadError>
     ensures { Read (opening_of_words words.now) program result }
 {
-    let Some(word) = words.first() else {
-        return Err(LoadError::Refused(Refusal::NoForm { place: 0 }));
-    };
-    match kind_of(*word) {
-        Kind::Opening => match RuleTable::over(heap, payload_of(*word)) {
-            Ok(table) => Ok(table),
-            Err(misfit) => Err(LoadError::Refused(misfit.at(0))),
-        },
-        _ => Err(LoadError::Refused(Refusal::NoForm { place: 0 })),
+    let no_form = Refusal::NoForm { place: 0 };
+    let opening = Word::from(*words.first().ok_or(no_form)?);
+    if opening.kind != Kind::Opening {
+        return Err(LoadError::from(no_form));
     }
+    let table = RuleTable::over(heap, opening.payload).map_err(|misfit| misfit.at(0))?;
+    Ok(table)
 }
 
 // Adds what the word at a place means, behind the words that the table was made of.
@@ -50,19 +52,15 @@ fn add_word(table: &mut RuleTable, place: usize, word: u32) -> Result<(), Reject
     ensures { Added (word_misfit (program table.old) place word) (program table.old) (with_word (program table.old) word) result (program table.new) }
 {
     if place >= MAX_WORDS {
-        return Err(Rejection::Unfit(Misfit::PastLimit));
+        return Err(Rejection::from(Misfit::PastLimit));
     }
-    let atom = payload_of(word);
-    match kind_of(word) {
-        Kind::Head => table.add_rule(atom),
-        Kind::Positive => table.add_literal(Literal {
-            atom,
-            positive: true,
+    let Word { kind, payload } = Word::from(word);
+    match kind {
+        Kind::Head => table.add_rule(payload),
+        Kind::Positive | Kind::Negative => table.add_literal(Literal {
+            atom: payload,
+            positive: kind == Kind::Positive,
         }),
-        Kind::Negative => table.add_literal(Literal {
-            atom,
-            positive: false,
-        }),
-        _ => Err(Rejection::Unfit(Misfit::NoForm)),
+        _ => Err(Rejection::from(Misfit::NoForm)),
     }
 }

@@ -14,7 +14,7 @@ use Rattle.rules.specs.Tables.{program, program_within}
 use Rattle.rules.specs.declared.table.RuleTable.{RuleTable}
 use Rattle.lists.specs.Lists.{IsList, list_of_words, among, ListRead}
 use Rattle.lists.specs.Laws.{TakenExactlyIfRising}
-use Rattle.case.specs.Calls.{VerdictBy, Lists}
+use Rattle.case.specs.Calls.{Verdict, Lists}
 
 words_fit : (ws : List ℕ) → ((i : ℕ) → get_or ws i 0 < 2 ^ 32) → Words ws
 words_fit ws fits = All-from_get_or (λ w. w < 2 ^ 32) ws 0 (λ i h. fits i)
@@ -36,7 +36,7 @@ payloads low n (a ∷ rest) h r =
 
 -- the answer to words of which a set is judged, and when it passes them
 pub record Judgement (n : ℕ) (Judges : Atoms → Result (Unit {0}) Refusal → Type 0) (Holds : Atoms → Type 0) (ws : List ℕ) (r : Result (Unit {0}) Refusal) : Type 0 where
-  pub answer : VerdictBy Judges (list_of_words n ws) r
+  pub answer : Verdict Judges (list_of_words n ws) r
   pub law : (r ≡ Ok tt) ↔ Lists n Holds ws
 
 -- words that were read over the atoms of a table's rules
@@ -73,7 +73,7 @@ module _ (t : RuleTable) (count : ℕ) (counted : count ≡ (program t).atoms) (
     words_refused f refused =
         let stops = ap (λ k. list_of_words k ws) (sym all_atoms) ∙ refused in
         record {
-          answer = subst (λ (x : Result (List ℕ) Refusal). VerdictBy Judges x (Err f)) (sym stops) refl;
+          answer = subst (λ (x : Result (List ℕ) Refusal). Verdict Judges x (Err f)) (sym stops) refl;
           law = ((λ e. absurd (never tt f e)), λ p. absurd (never p.atoms f (sym stops ∙ (exactly p.atoms).1 p.listed)));
         }
 
@@ -81,7 +81,7 @@ module _ (t : RuleTable) (count : ℕ) (counted : count ≡ (program t).atoms) (
     pub set_judged : (set : AtomSet) (list : ListRead (list_of_words (min count max_atoms) ws) (Ok set)) (r : Result (Unit {0}) Refusal) → Judges (has set) r → (r ≡ Ok tt) ↔ Holds (has set) → Judgement n Judges Holds ws r
     set_judged set list r judged law =
         record {
-          answer = subst (λ (x : Result (List ℕ) Refusal). VerdictBy Judges x r) (sym (read set list)) (subst (λ (M : Atoms). Judges M r) (set_is set list) judged);
+          answer = subst (λ (x : Result (List ℕ) Refusal). Verdict Judges x r) (sym (read set list)) (subst (λ (M : Atoms). Judges M r) (set_is set list) judged);
           law = (
             (λ e. record { atoms = list.0; listed = (exactly list.0).0 (read set list); holds = subst Holds (set_is set list) (law.0 e) }),
             λ p.

@@ -18,19 +18,14 @@ use Rattle.models.specs.Judging.{Judged}
 use Rattle.settling.specs.Settling.{SettledTrue, SettledFalse, Unsettled, SettledAs}
 use Rattle.settling.specs.Assuming.{PreAssumption, Assumption}
 
--- the verdict on what the words of a plan read as
-abbrev pub Verdict : Program → Result (List ℕ) Refusal → Result (Unit {0}) Refusal → Type 0
-Verdict P (Ok atoms) r = Judged P (among atoms) r
-Verdict P (Err f) r = r ≡ Err f
+-- the verdict on what words read as: the refusal of the first word at fault, or that of the set of the atoms
+abbrev pub Verdict : (Atoms → Result (Unit {0}) Refusal → Type 0) → Result (List ℕ) Refusal → Result (Unit {0}) Refusal → Type 0
+Verdict Judges (Ok atoms) r = Judges (among atoms) r
+Verdict Judges (Err f) r = r ≡ Err f
 
 -- offer refuses the first word at fault, then judges the plan
 abbrev pub Offered : Program → List ℕ → Result (Unit {0}) Refusal → Type 0
-Offered P ws r = Verdict P (list_of_words P.atoms ws) r
-
--- what a verdict says of what words read as: it is the refusal of the first word at fault, or judges the set of the atoms
-abbrev pub VerdictBy : (Atoms → Result (Unit {0}) Refusal → Type 0) → Result (List ℕ) Refusal → Result (Unit {0}) Refusal → Type 0
-VerdictBy Judges (Ok atoms) r = Judges (among atoms) r
-VerdictBy Judges (Err f) r = r ≡ Err f
+Offered P ws r = Verdict (Judged P) (list_of_words P.atoms ws) r
 
 -- the words list a set of which this holds
 pub record Lists (n : ℕ) (Holds : Atoms → Type 0) (ws : List ℕ) : Type 0 where
@@ -39,10 +34,8 @@ pub record Lists (n : ℕ) (Holds : Atoms → Type 0) (ws : List ℕ) : Type 0 w
   pub holds : Holds (among atoms)
 
 -- the words are those of a plan that is an answer set
-pub record IsPlan (P : Program) (ws : List ℕ) : Type 0 where
-  pub atoms : List ℕ
-  pub listed : IsList P.atoms atoms ws
-  pub answers : AnswerSet P (among atoms)
+abbrev pub IsPlan : Program → List ℕ → Type 0
+IsPlan P ws = Lists P.atoms (AnswerSet P) ws
 
 -- the words are those of a hold list that is an assumption with respect to the plan M
 abbrev pub IsHold : Program → Atoms → List ℕ → Type 0
@@ -72,7 +65,7 @@ Assumed P M A (Err (refusal.Circular place)) = ⊥
 -- hold needs a plan, refuses the first word at fault, then judges the hold list
 abbrev pub Held : Program → Option Atoms → List ℕ → Result (Unit {0}) Refusal → Type 0
 Held P None ws r = r ≡ Err refusal.NoPlan
-Held P (Some M) ws r = VerdictBy (Assumed P M) (list_of_words P.atoms ws) r
+Held P (Some M) ws r = Verdict (Assumed P M) (list_of_words P.atoms ws) r
 
 -- hold passes exactly the words of an assumption with respect to the standing plan
 abbrev pub HoldPasses : Program → Option Atoms → List ℕ → Type 0

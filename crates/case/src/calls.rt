@@ -53,9 +53,7 @@ impl Case {
     pub fn propose(&self, out: &mut [u32]) -> Result<usize, Refusal>
         ensures { Proposed (rules_of self.now) (plan_of self.now) out.old result out.new }
     {
-        let Some(plan) = self.plan() else {
-            return Err(Refusal::NoPlan);
-        };
+        let plan = self.plan().ok_or(Refusal::NoPlan)?;
         let list = self.assumable.difference(&plan);
         write_words(&list, self.rules.atom_count(), out)
     }
@@ -64,9 +62,7 @@ impl Case {
     pub fn status(&self, atom: u32) -> Result<bool, Refusal>
         ensures { result ≡ status_answer (rules_of self.now).atoms (plan_of self.now) atom }
     {
-        let Some(plan) = self.plan() else {
-            return Err(Refusal::NoPlan);
-        };
+        let plan = self.plan().ok_or(Refusal::NoPlan)?;
         if atom == 0 || atom > self.rules.atom_count() {
             return Err(Refusal::NoSuchAtom { atom });
         }
@@ -83,8 +79,7 @@ impl Case {
     // The plan that stands, which is an answer set of the rules.
     pub fn plan(&self) -> Option<AtomSet>
         ensures answer { option_map has result ≡ plan_of self.now }
-        ensures law { IfSome result (λ plan. ∥ AnswerSet (rules_of self.now) (has plan) ∥₁) }
-        ensures stands { IfSome result (λ plan. AnswerSet (rules_of self.now) (has plan)) }
+        ensures law { IfSome result (λ plan. AnswerSet (rules_of self.now) (has plan)) }
     {
         match self.standing {
             Standing::Nothing => None,

@@ -24,9 +24,7 @@ impl Case {
         ensures same { rules_of self.new ≡ rules_of self.old }
         ensures refused { is_err result ≡ true → self.new ≡ self.old }
     {
-        let Some(plan) = self.plan() else {
-            return Err(Refusal::NoPlan);
-        };
+        let plan = self.plan().ok_or(Refusal::NoPlan)?;
         let held = read_list(words, self.rules.atom_count())?;
         self.judge_held(&plan, &held)?;
         self.standing = Standing::Hold { plan, held };

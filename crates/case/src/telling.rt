@@ -7,7 +7,7 @@ ghost use Rattle.case.specs.Calls.{node_word, SettledTold, Reported};
 
 use crate::Case;
 use crate::standing::Standing;
-use base::{Kind, Refusal, word_of};
+use base::{Kind, Refusal, Word};
 use lists::{AtomMarks, write_words};
 use rules::RuleSource;
 use sets::MAX_ATOMS;
@@ -57,9 +57,14 @@ impl AtomMarks for Statuses {
         if atom > MAX_ATOMS || self.settled.unsettled.contains(atom) {
             return None;
         }
-        if self.settled.trues.contains(atom) {
-            return Some(word_of(Kind::TrueNode, atom));
-        }
-        Some(word_of(Kind::FalseNode, atom))
+        let kind = if self.settled.trues.contains(atom) {
+            Kind::TrueNode
+        } else {
+            Kind::FalseNode
+        };
+        Some(u32::from(Word {
+            kind,
+            payload: atom,
+        }))
     }
 }

@@ -1,24 +1,22 @@
--- What is told of a plan and a hold list, by the answer to both. Assumes nothing.
-use Rattle.std.proofs.Common.{◌≡◌, ℕ, Bool, List, Some, Ok, Err, Option, Result, refl, subst, arith}
+-- What is told of a plan and a hold list that are refused. Assumes nothing.
+use Rattle.std.proofs.Common.{◌≡◌, ℕ, false, List, Ok, Err, Option, Result, refl, ap, subst, subst₂}
 use Rattle.base.specs.declared.refusal.Refusal.{Refusal}
 use Rattle.sets.specs.Sets.{Atoms}
 use Rattle.rules.specs.Program.{Program}
 use Rattle.case.specs.Calls.{Offered}
-use Rattle.console.specs.Outcomes.{Refusing}
-use Rattle.console.specs.Printouts.{Reporting, ToldRules}
+use Rattle.texts.specs.Texts.{refusal_line}
+use Rattle.console.specs.Printouts.{ToldRules}
 use Rattle.console.specs.Passing.{Passing, PassingPlan}
 
-module _ (P : Program) (ps hs : List ℕ) (plan held : Option Atoms) (passed : Bool) (text : List ℕ) where
-  pub told_passed : Passing P ps hs (Ok tt) plan held → ((M A : Atoms) → plan ≡ Some M → held ≡ Some A → Reporting P M A passed text) → ToldRules P ps hs passed text
-  told_passed p reporting = go p.0 p.1 p.2
+module _ (P : Program) (ps hs : List ℕ) (plan held : Option Atoms) (f : Refusal) where
+  told_refused : Passing P ps hs (Err f) plan held → ToldRules P ps hs false (refusal_line f)
+  told_refused p = go p.0 p.1 p.2
     where
-      go : (x : Result (Unit {0}) Refusal) → Offered P ps x → PassingPlan P ps hs x (Ok tt) plan held → ToldRules P ps hs passed text
-      go (Ok done) offered h = (Ok tt, offered, (Ok tt, h.answer, reporting _ _ (h.plan_stands refl) (h.hold_stands refl)))
-      go (Err f) offered h = absurd (let z : ◌≡◌ {A = ℕ} 0 1 = cc in omega arith)
+      go : (x : Result (Unit {0}) Refusal) → Offered P ps x → PassingPlan P ps hs x (Err f) plan held → ToldRules P ps hs false (refusal_line f)
+      go (Ok done) offered h = (Ok tt, offered, (Err f, h.answer, record { fails = refl; told = refl }))
+      go (Err g) offered h = (Err g, offered, (let same : f ≡ g = cc in record { fails = refl; told = ap refusal_line same }))
 
-  pub told_refused : (f : Refusal) → Passing P ps hs (Err f) plan held → Refusing f passed text → ToldRules P ps hs passed text
-  told_refused f p refusing = go p.0 p.1 p.2
-    where
-      go : (x : Result (Unit {0}) Refusal) → Offered P ps x → PassingPlan P ps hs x (Err f) plan held → ToldRules P ps hs passed text
-      go (Ok done) offered h = (Ok tt, offered, (Err f, h.answer, refusing))
-      go (Err g) offered h = (Err g, offered, (let same : f ≡ g = cc in subst (λ (x : Refusal). Refusing x passed text) same refusing))
+  -- the same by the rules and the words that the calls were made with
+  pub refused_told : (Q : Program) (xs ys : List ℕ) → Q ≡ P → xs ≡ ps → ys ≡ hs → Passing Q xs ys (Err f) plan held → ToldRules P ps hs false (refusal_line f)
+  refused_told Q xs ys rules is_plan is_hold p =
+      told_refused (subst (λ (X : Program). Passing X ps hs (Err f) plan held) rules (subst₂ (λ (x y : List ℕ). Passing Q x y (Err f) plan held) is_plan is_hold p))

@@ -1,5 +1,5 @@
 pub mod Commands
-pub mod FileCommands
+pub mod Telling
 pub mod Outcomes
 pub mod Printouts
 pub mod Passing

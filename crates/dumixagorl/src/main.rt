@@ -4,94 +4,99 @@
 mod files;
 mod replay;
 
-use anyhow::anyhow;
-use console::{
-    Command, FILE_HELP, FileCommand, HELP, SourceKind, command_of, file_command_of, judge_files,
-    settle_file, source_of,
-};
+use anyhow::{anyhow, bail};
+use base::LoadError;
+use console::{Command, HELP, SourceKind, UnknownCommand, judge_files, settle_file};
 use files::{read_file, read_named};
 use replay::replay_lines;
 use std::env;
 use std::env::Args;
-use std::io::Write;
 use std::process::ExitCode;
 
 // A refusal ends with status 1 and no word on standard error, so no error is returned here.
 fn main(rt: HostRuntime) -> ExitCode {
     match run(&rt) {
-        Ok(true) => ExitCode::SUCCESS,
-        Ok(false) => ExitCode::FAILURE,
+        Ok(status) => status,
         Err(e) => {
-            let _ = eprintln!(rt; "dumixagorl: {e}");
+            let _ = eprintln!(rt; "dumixagorl: {e:#}");
             ExitCode::FAILURE
         }
     }
 }
 
-// Whether the work was done; a refusal is printed as the answer.
-fn run(rt: &HostRuntime) -> anyhow::Result<bool> {
+fn run(rt: &HostRuntime) -> anyhow::Result<ExitCode> {
     let mut args = env::args(rt)?;
     let _ = args.next();
     let Some(word) = args.next() else {
         return judge(rt);
     };
-    match command_of(word.as_str()) {
-        Command::Help => {
+    match word.parse::<Command>() {
+        Ok(Command::Help) => {
             no_more(&mut args)?;
             rt.print(HELP)?;
-            rt.print(FILE_HELP)?;
-            Ok(true)
+            Ok(ExitCode::SUCCESS)
         }
-        Command::Unknown => run_file_command(rt, word.as_str(), &mut args),
-    }
-}
-
-fn run_file_command(rt: &HostRuntime, word: &str, args: &mut Args) -> anyhow::Result<bool> {
-    match file_command_of(word) {
-        Some(FileCommand::Replay) => {
-            let (kind, file) = source(rt, args)?;
-            replay_lines(rt, kind, file.as_slice())
+        Ok(Command::Replay) => {
+            let (kind, file) = source(rt, &mut args)?;
+            replay_lines(rt, kind, &file)
         }
-        Some(FileCommand::Settled) => {
-            let (kind, file) = source(rt, args)?;
-            let outcome = settle_file(rt.alloc(), kind, file.as_slice())?;
-            rt.stdout().write_all(outcome.text.as_slice())?;
-            Ok(outcome.passed)
+        Ok(Command::Settled) => {
+            let (kind, file) = source(rt, &mut args)?;
+            tell(rt, settle_file(rt.alloc(), kind, &file))
         }
-        None => {
-            no_more(args)?;
-            Err(anyhow!(format!(in rt.alloc(); "unknown argument '{word}'; try --help")?))
+        Err(UnknownCommand) => {
+            no_more(&mut args)?;
+            bail!("unknown argument '{word}'; try --help")
         }
     }
 }
 
-fn judge(rt: &HostRuntime) -> anyhow::Result<bool> {
+fn judge(rt: &HostRuntime) -> anyhow::Result<ExitCode> {
     let book = read_file(rt, "book")?;
     let plan = read_file(rt, "plan")?;
-    let outcome = judge_files(rt.alloc(), book.as_slice(), plan.as_slice())?;
-    rt.print(outcome.text.as_str())?;
-    Ok(outcome.passed)
+    tell(rt, judge_files(rt.alloc(), &book, &plan))
+}
+
+// Prints a text, or the refusal that stands in its place.
+fn tell(rt: &HostRuntime, told: Result<String, LoadError>) -> anyhow::Result<ExitCode> {
+    match told {
+        Ok(text) => {
+            rt.print(text.as_str())?;
+            Ok(ExitCode::SUCCESS)
+        }
+        Err(e) => refuse(rt, e),
+    }
+}
+
+// Prints a refusal as the answer; want of memory is no answer.
+pub(crate) fn refuse(rt: &HostRuntime, error: LoadError) -> anyhow::Result<ExitCode> {
+    match error {
+        LoadError::Refused(refusal) => {
+            println!(rt; "{refusal}")?;
+            Ok(ExitCode::FAILURE)
+        }
+        LoadError::OutOfMemory => Err(error.into()),
+    }
 }
 
 // The arguments SOURCE and FILE, and what the file has.
 fn source(rt: &HostRuntime, args: &mut Args) -> anyhow::Result<(SourceKind, Vec<u8>)> {
     let Some(kind) = args.next() else {
-        return Err(anyhow!("SOURCE is missing; try --help"));
+        bail!("SOURCE is missing; try --help");
     };
     let Some(path) = args.next() else {
-        return Err(anyhow!("FILE is missing; try --help"));
+        bail!("FILE is missing; try --help");
     };
     no_more(args)?;
-    let Some(kind) = source_of(kind.as_str()) else {
-        return Err(anyhow!("SOURCE is 'book' or 'sharing'; try --help"));
+    let Ok(kind) = kind.parse::<SourceKind>() else {
+        bail!("SOURCE is 'book' or 'sharing'; try --help");
     };
-    let file = read_named(rt, path.as_str())?;
-    Ok((kind, file))
+    Ok((kind, read_named(rt, path.as_str())?))
 }
 
 fn no_more(args: &mut Args) -> anyhow::Result<()> {
     if args.next().is_some() {
-        return Err(anyhow!("too many arguments; try --help"));
+        bail!("too many arguments; try --help");
     }
     Ok(())
 }

@@ -1,8 +1,9 @@
 // Calls from standard input, and their answers.
-use console::{Replayed, SourceKind, replay_file};
-use lines::{Line, answer_line, read_line};
+use crate::refuse;
+use console::{SourceKind, replay_file};
+use lines::{LineError, answer_line, read_line};
 use runs::{Answer, Call};
-use std::io::Write;
+use std::process::ExitCode;
 
 // The calls up to the first line that is none.
 #[derive(Drop)]
@@ -17,28 +18,23 @@ pub(crate) fn replay_lines(
     rt: &HostRuntime,
     kind: SourceKind,
     file: &[u8],
-) -> anyhow::Result<bool> {
+) -> anyhow::Result<ExitCode> {
     let script = read_script(rt)?;
-    match replay_file(rt.alloc(), kind, file, script.calls.as_slice())? {
-        Replayed::Refused(outcome) => {
-            rt.stdout().write_all(outcome.text.as_slice())?;
-            Ok(false)
-        }
-        Replayed::Answered(answers) => {
-            print_answers(rt, answers.as_slice())?;
-            if let Some(number) = script.stopped {
-                eprintln!(rt; "line {number}: not a call")?;
-                return Ok(false);
-            }
-            Ok(true)
-        }
+    let answers = match replay_file(rt.alloc(), kind, file, &script.calls) {
+        Ok(answers) => answers,
+        Err(e) => return refuse(rt, e),
+    };
+    print_answers(rt, &answers)?;
+    if let Some(number) = script.stopped {
+        eprintln!(rt; "line {number}: not a call")?;
+        return Ok(ExitCode::FAILURE);
     }
+    Ok(ExitCode::SUCCESS)
 }
 
 fn print_answers(rt: &HostRuntime, answers: &[Answer]) -> anyhow::Result<()> {
     for answer in answers {
-        let text = answer_line(rt.alloc(), answer)?;
-        rt.print(text.as_str())?;
+        rt.print(answer_line(rt.alloc(), answer)?)?;
     }
     Ok(())
 }
@@ -46,18 +42,17 @@ fn print_answers(rt: &HostRuntime, answers: &[Answer]) -> anyhow::Result<()> {
 fn read_script(rt: &HostRuntime) -> anyhow::Result<Script> {
     let heap = rt.alloc();
     let mut calls = Vec::new(heap);
-    let mut number: usize = 0;
-    for text in rt.lines(heap) {
-        number = number.saturating_add(1);
-        match read_line(heap, text?.as_bytes())? {
-            Line::Skipped => {}
-            Line::Call(call) => calls.push(call)?,
-            Line::NoCall => {
+    for (index, text) in rt.lines(heap).enumerate() {
+        match read_line(heap, text?.as_bytes()) {
+            Ok(Some(call)) => calls.push(call)?,
+            Ok(None) => {}
+            Err(LineError::NotACall) => {
                 return Ok(Script {
                     calls,
-                    stopped: Some(number),
+                    stopped: Some(index.saturating_add(1)),
                 });
             }
+            Err(e) => return Err(e.into()),
         }
     }
     Ok(Script {

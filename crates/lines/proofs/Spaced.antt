@@ -1,7 +1,7 @@
 -- The words of fields, read from the first on. Assumes nothing.
-use Rattle.std.proofs.Common.{◌≡◌, ℕ, ◌+◌, ◌<◌, ◌≤◌, List, [], ◌∷◌, ◌++◌, length, take, drop, codes, sym, refl, ap, ◌∙◌, subst, ap₂, arith}
+use Rattle.std.proofs.Common.{◌≡◌, ℕ, ◌+◌, ◌<◌, min, List, [], ◌∷◌, ◌++◌, length, take, drop, codes, sym, refl, ap, ◌∙◌, subst, arith}
 use Rattle.std.specs.Str.Parse.{digits_value}
-use Rattle.std.proofs.lemmas.List.{append-nil, append_assoc, append_cancel_left, length-append, take-append-drop, take_at, drop_at, nil_from_length}
+use Rattle.std.proofs.lemmas.List.{append-nil, append_assoc, append_cancel_left, length-append, take_at, drop_at}
 use Rattle.lines.specs.Lines.{Word, Field, End, Words}
 
 -- a field of a word takes nine bytes, and what follows it the rest
@@ -71,26 +71,23 @@ pub record Sofar (fields done rest : List ℕ) : Type 0 where
   pub words : Words done front
 
 -- one field more
-pub sofar_more : {fields done rest : List ℕ} (field behind after : List ℕ) (w : ℕ) → field ≡ take 9 rest → behind ≡ drop 9 rest → Field Word w End field → after ≡ done ++ (w ∷ []) →
-    Sofar fields done rest → Sofar fields after behind
-sofar_more {fields} {done} {rest} field behind after w first later read pushed so =
-    let cut : rest ≡ field ++ behind = sym (take-append-drop 9 rest) ∙ ap₂ ◌++◌ (sym first) (sym later) in
+pub sofar_more : {fields done after rest : List ℕ} (field behind : List ℕ) (w : ℕ) → rest ≡ field ++ behind → Field Word w End field → after ≡ done ++ (w ∷ []) → Sofar fields done rest → Sofar fields after behind
+sofar_more {fields} {done} {after} {rest} field behind w cut read pushed so =
     record {
       front = so.front ++ field;
       split = so.split ∙ ap (λ xs. so.front ++ xs) cut ∙ sym (append_assoc so.front field behind);
       words = subst (λ ws. Words ws (so.front ++ field)) (sym pushed) (words_push done so.front field w so.words read);
     }
 
-pub sofar_all : {fields done : List ℕ} (rest : List ℕ) → length rest ≡ 0 → Sofar fields done rest → Words done fields
-sofar_all {fields} {done} rest none so =
-    subst (Words done) (sym (so.split ∙ ap (λ xs. so.front ++ xs) (nil_from_length rest none) ∙ append-nil so.front)) so.words
-
-no_field : (rest : List ℕ) → 0 < length rest → ((w : ℕ) → 9 ≤ length rest → Field Word w End (take 9 rest) → ⊥) → (more : List ℕ) → Words more rest → ⊥
-no_field rest some other [] none = omega (arith, ap length none)
-no_field rest some other (w ∷ more) f = other w (omega (arith, word_length f)) (word_alone f)
+no_field : (rest field behind : List ℕ) → rest ≡ field ++ behind → length field ≡ min 9 (length rest) → 0 < length rest → ((w : ℕ) → Field Word w End field → ⊥) → (more : List ℕ) → Words more rest → ⊥
+no_field rest field behind cut size some other [] none = omega (arith, ap length none)
+no_field rest field behind cut size some other (w ∷ more) f =
+    let whole : length field ≡ 9 = omega (arith, word_length f) in
+    other w (subst (Field Word w End) (ap (take 9) cut ∙ take_at field behind 9 whole) (word_alone f))
 
 -- what is left begins with no field of a word, so the fields are not those of words
-pub no_words : {fields done rest : List ℕ} → Sofar fields done rest → 0 < length rest → ((w : ℕ) → 9 ≤ length rest → Field Word w End (take 9 rest) → ⊥) → (words : List ℕ) → Words words fields → ⊥
-no_words {fields} {done} {rest} so some other words all =
+pub no_words : {fields done rest : List ℕ} (field behind : List ℕ) → rest ≡ field ++ behind → length field ≡ min 9 (length rest) → 0 < length rest → ((w : ℕ) → Field Word w End field → ⊥) → Sofar fields done rest →
+    (words : List ℕ) → Words words fields → ⊥
+no_words {fields} {done} {rest} field behind cut size some other so words all =
     let left = words_behind done words so.front rest so.words (subst (Words words) so.split all) in
-    no_field rest some other left.0 left.2
+    no_field rest field behind cut size some other left.0 left.2

@@ -2,7 +2,7 @@
 use Rattle.std.proofs.Common.{◌≡◌, ℕ, ◌+◌, ◌*◌, ◌^◌, ◌<◌, ◌≤◌, List, [], ◌∷◌, length, get_or, drop, subst, mul-le-mul_left, arith}
 use Rattle.std.specs.Str.Parse.{AllDigits, digits_value, digits_value_after}
 use Rattle.std.specs.Char.{digit_value}
-use Rattle.std.proofs.lemmas.List.{drop_more, drop_all}
+use Rattle.std.proofs.lemmas.List.{drop_more}
 
 -- number is what the digits before rest write
 pub record Left (radix number : ℕ) (digits rest : List ℕ) : Type 0 where
@@ -13,18 +13,6 @@ pub record Left (radix number : ℕ) (digits rest : List ℕ) : Type 0 where
 -- the digits of what is left, by the first of them
 first_left : {radix number : ℕ} {digits : List ℕ} (i : ℕ) → i < length digits → Left radix number digits (drop i digits) → Left radix number digits (get_or digits i 0 ∷ drop (i + 1) digits)
 first_left {radix} {number} {digits} i within = subst (Left radix number digits) (drop_more digits i 0 within)
-
-pub left_more : {radix number : ℕ} {digits : List ℕ} (i : ℕ) → i < length digits → digit_value (get_or digits i 0) < radix → Left radix number digits (drop i digits) →
-    Left radix (number * radix + digit_value (get_or digits i 0)) digits (drop (i + 1) digits)
-left_more i within digit left =
-    let l = first_left i within left in
-    record { valued = l.valued; whole = λ more. l.whole (digit, more); part = λ all. (l.part all).1 }
-
-pub left_none : {radix number : ℕ} {digits : List ℕ} (i : ℕ) → length digits ≤ i → Left radix number digits (drop i digits) → AllDigits radix digits × (number ≡ digits_value radix digits)
-left_none {radix} {number} {digits} i none left = let l = subst (Left radix number digits) (drop_all i digits none) left in (l.whole tt, l.valued)
-
-pub no_digit : {radix number : ℕ} {digits : List ℕ} (i : ℕ) → i < length digits → (digit_value (get_or digits i 0) < radix → ⊥) → Left radix number digits (drop i digits) → AllDigits radix digits → ⊥
-no_digit i within other left all = other ((first_left i within left).part all).0
 
 value_at_least : (radix number : ℕ) (digits : List ℕ) → 0 < radix → number ≤ digits_value_after radix number digits
 value_at_least radix number [] some = omega arith

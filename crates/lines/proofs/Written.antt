@@ -1,44 +1,78 @@
 -- Words in hexadecimal digits, written one after another. Assumes nothing.
-use Rattle.std.proofs.Common.{◌≡◌, ℕ, zero, suc, ◌+◌, ◌-◌, ◌/◌, ◌%◌, ◌^◌, ◌<◌, ◌≤◌, true, cond, ltb, List, [], ◌∷◌, ◌++◌, length, get_or, take, is_ok, IfOk, Ok, Err, codes, decimal, Result, sym, refl, ap, ◌∙◌, ap₂, pow-suc, arith}
+use Rattle.std.proofs.Common.{◌≡◌, ℕ, ⊎_elim, false, eqb, zero, suc, ◌+◌, ◌-◌, ◌/◌, ◌%◌, ◌^◌, ◌<◌, ◌≤◌, true, List, [], ◌∷◌, ◌++◌, length, get_or, take, codes, decimal, sym, refl, ap, ◌∙◌, pow-suc, add-one, arith}
+use Rattle.std.proofs.Math.ListN.{replicate}
 use Rattle.std.specs.List.{flat_map}
 use Rattle.std.specs.Str.Parse.{AllDigits, digits_value}
 use Rattle.std.specs.Char.{digit_value}
-use Rattle.std.specs.Fmt.{digit_glyph}
+use Rattle.std.specs.Fmt.{digit_glyph, digits_onto, digits, padded_integral, format_spec, char_count}
 use Rattle.std.proofs.lemmas.Int.Digits.{digits_push, digits_value_push}
-use Rattle.std.proofs.lemmas.List.{append_assoc, flat_map_more, length_push, take_more, take_all}
-use Rattle.std.proofs.lemmas.Bool.{cond_both}
+use Rattle.std.proofs.lemmas.List.{append_assoc, append-nil, flat_map_more, length_push, replicate_more, take_more, take_all}
+use Rattle.std.proofs.lemmas.Bool.{cond-true, cond-false, eq-eqb, ne_eqb, cases_eq}
 use Rattle.std.proofs.lemmas.Bool.Decides.{nat_tests}
 use Rattle.lines.specs.Answers.{hex_digits, word_text, words_text}
 use Rattle.lines.specs.Lines.{Words}
 
-made_push : {X Y : Type 0} (r : Result X Y) (old new more all : List ℕ) → new ≡ cond (is_ok r) (old ++ more) old → old ++ more ≡ all → IfOk r (λ _. new ≡ all)
-made_push (Ok x) old new more all e same = e ∙ same
-made_push (Err y) old new more all e same = tt
+hex_zeros : (k : ℕ) → hex_digits k 0 ≡ replicate k 48
+hex_zeros zero = refl
+hex_zeros (suc k) = ap (λ ds. ds ++ (48 ∷ [])) (hex_zeros k) ∙ replicate_more k 48 ∙ ap (λ n. replicate n 48) (add-one k)
 
-glyph_ascii : (d : ℕ) → d < 16 → digit_glyph true d < 128
-glyph_ascii d small = cond_both (ltb d 10) (48 + d) (55 + d) (λ c. c < 128) (λ _. omega arith) (λ _. omega arith)
+-- the digits that the library writes, j of them at most, are the last k digits without the zeros in front
+abbrev Behind : ℕ → ℕ → ℕ → Type 0
+Behind j k n =
+    (zeros : ℕ) × ((acc : List ℕ) → (zeros + length (digits_onto j 16 true n acc) ≡ k + length acc) × (replicate zeros 48 ++ digits_onto j 16 true n acc ≡ hex_digits k n ++ acc))
 
-hex_more : (k n : ℕ) → 0 < k → hex_digits k n ≡ hex_digits (k - 1) (n / 16) ++ (digit_glyph true (n % 16) ∷ [])
-hex_more zero n some = absurd (omega arith)
-hex_more (suc k) n some = let last : k ≡ suc k - 1 = omega arith in ap (λ j. hex_digits j (n / 16) ++ (digit_glyph true (n % 16) ∷ [])) last
-
--- the last digit, pushed behind those of the sixteenth
-pub hex_push : {X Y : Type 0} (r : Result X Y) (old mid new encoded : List ℕ) (k n digit : ℕ) → 0 < k → mid ≡ old ++ hex_digits (k - 1) (n / 16) → digit ≡ digit_glyph true (n % 16) →
-    (digit < 128 → encoded ≡ digit ∷ []) → new ≡ cond (is_ok r) (mid ++ encoded) mid → IfOk r (λ _. new ≡ old ++ hex_digits k n)
-hex_push r old mid new encoded k n digit some before is ascii pushed =
+one_digit : (j k n : ℕ) → n / 16 ≡ 0 → Behind (suc j) (suc k) n
+one_digit j k n none =
     let last = digit_glyph true (n % 16) ∷ [] in
-    let low : digit < 128 = omega (arith, glyph_ascii (n % 16) (omega arith)) in
-    made_push r mid new encoded (old ++ hex_digits k n) pushed
-    (ap₂ ◌++◌ before (ascii low ∙ ap (λ d. d ∷ []) is) ∙ append_assoc old (hex_digits (k - 1) (n / 16)) last ∙ ap (λ xs. old ++ xs) (sym (hex_more k n some)))
+    let front : hex_digits k (n / 16) ≡ replicate k 48 = ap (hex_digits k) none ∙ hex_zeros k in (
+      k,
+      λ acc.
+          let this : digits_onto (suc j) 16 true n acc ≡ last ++ acc = cond-true (eqb (n / 16) 0) (last ++ acc) _ (eq-eqb (n / 16) 0 none) in
+          (omega (arith, ap length this), ap (λ ds. replicate k 48 ++ ds) this ∙ sym (append_assoc (replicate k 48) last acc) ∙ ap (λ ds. (ds ++ last) ++ acc) (sym front)),
+    )
+
+digit_more : (j k n : ℕ) → (n / 16 ≡ 0 → ⊥) → Behind j k (n / 16) → Behind (suc j) (suc k) n
+digit_more j k n some b =
+    let last = digit_glyph true (n % 16) ∷ [] in (
+      b.0,
+      λ acc.
+          let more = b.1 (last ++ acc) in
+          let this : digits_onto (suc j) 16 true n acc ≡ digits_onto j 16 true (n / 16) (last ++ acc) = cond-false (eqb (n / 16) 0) _ (digits_onto j 16 true (n / 16) (last ++ acc)) (ne_eqb (n / 16) 0 some) in
+          (omega (arith, ap length this, more.0), ap (λ ds. replicate b.0 48 ++ ds) this ∙ more.1 ∙ sym (append_assoc (hex_digits k (n / 16)) last acc)),
+    )
+
+hex_behind : (j k n : ℕ) → k ≤ j → n < 16 ^ suc k → Behind (suc j) (suc k) n
+hex_behind j zero n room few = one_digit j zero n (omega arith)
+hex_behind zero (suc k) n room few = absurd (omega arith)
+hex_behind (suc j) (suc k) n room few =
+    ⊎_elim (one_digit (suc j) (suc k) n) (λ some. digit_more (suc j) (suc k) n some (hex_behind j k (n / 16) (omega arith) (omega (arith, pow-suc 16 (suc k))))) (cases_eq (n / 16) 0)
+
+all_digits : (n : ℕ) → digits_onto 64 16 true n [] ≡ digits 16 true n
+unfolding digits
+all_digits n = refl
+
+filled : (zeros : ℕ) (ds : List ℕ) → zeros + length ds ≡ 8 → padded_integral (format_spec 32 0 4 8 (2 ^ 64 - 1)) false [] ds ≡ replicate zeros 48 ++ ds
+unfolding padded_integral char_count
+filled zeros ds eight = let short : 8 - length ds - 0 - 0 ≡ zeros = omega arith in rw (short, append-nil)
+
+-- what `{:08X}` writes of a number
+abbrev pub eight_digits : ℕ → List ℕ
+eight_digits n = padded_integral (format_spec 32 0 4 8 (2 ^ 64 - 1)) false [] (digits 16 true n)
+
+hex_word : (n : ℕ) → n < 2 ^ 32 → eight_digits n ≡ hex_digits 8 n
+hex_word n small =
+    let b = hex_behind 63 7 n (omega arith) (omega arith) in
+    let o = b.1 [] in
+    let same = all_digits n in
+    filled b.0 (digits 16 true n) (omega (arith, o.0, ap length same)) ∙ ap (λ ds. replicate b.0 48 ++ ds) (sym same) ∙ o.1 ∙ append-nil (hex_digits 8 n)
 
 -- one word more, behind what stands
-pub words_more : (front old mid new words : List ℕ) (i : ℕ) → i < length words → old ≡ front ++ flat_map word_text (take i words) → mid ≡ old ++ codes " " →
-    new ≡ mid ++ hex_digits 8 (get_or words i 0) → new ≡ front ++ flat_map word_text (take (i + 1) words)
-words_more front old mid new words i within before spaced written =
+pub words_more : (front old new words : List ℕ) (i : ℕ) → i < length words → get_or words i 0 < 2 ^ 32 → old ≡ front ++ flat_map word_text (take i words) →
+    new ≡ old ++ (codes " " ++ eight_digits (get_or words i 0)) → new ≡ front ++ flat_map word_text (take (i + 1) words)
+words_more front old new words i within small before written =
     let word = get_or words i 0 in
     written
-    ∙ ap (λ xs. xs ++ hex_digits 8 word) spaced
-    ∙ append_assoc old (codes " ") (hex_digits 8 word)
+    ∙ ap (λ ds. old ++ (codes " " ++ ds)) (hex_word word small)
     ∙ ap (λ xs. xs ++ word_text word) before
     ∙ flat_map_more word_text front (take i words) word
     ∙ ap (λ ws. front ++ flat_map word_text ws) (sym (take_more words i 0 within))

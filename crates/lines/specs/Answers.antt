@@ -1,10 +1,10 @@
 -- What is printed for an answer. Assumes nothing.
-use Rattle.std.specs.Prelude.{◌≡◌, ℕ, zero, suc, ◌/◌, ◌%◌, true, false, List, [], ◌∷◌, ◌++◌, length, vec_items, codes, decimal}
+use Rattle.std.specs.Prelude.{◌≡◌, ℕ, zero, suc, ◌/◌, ◌%◌, true, false, List, [], ◌∷◌, ◌++◌, length, vec_items, Ok, Err, codes, decimal}
 use Rattle.std.specs.List.{flat_map}
 use Rattle.std.specs.Fmt.{digit_glyph}
 use Rattle.texts.specs.Texts.{refusal_line}
-use Rattle.runs.specs.declared.answer.Answer.{Answer}
-use Rattle.runs.specs.declared.answer.Answer.TheVariants as answer
+use Rattle.runs.specs.declared.answer.Reply.TheVariants.{Passed, Wrote, Told}
+use Rattle.runs.specs.Traces.{Answer}
 use Rattle.lines.specs.Lines.{Words}
 
 -- the last k hexadecimal digits of n, in upper case
@@ -25,8 +25,8 @@ pub record WordsLine (words text : List ℕ) : Type 0 where
   pub read : Words words (flat_map word_text words)
 
 abbrev pub answer_text : Answer → List ℕ
-answer_text answer.Passed = codes "passed\n"
-answer_text (answer.Wrote words) = words_text (vec_items words)
-answer_text (answer.Told true) = codes "in\n"
-answer_text (answer.Told false) = codes "out\n"
-answer_text (answer.Refused refusal) = refusal_line refusal
+answer_text (Ok Passed) = codes "passed\n"
+answer_text (Ok (Wrote words)) = words_text (vec_items words)
+answer_text (Ok (Told true)) = codes "in\n"
+answer_text (Ok (Told false)) = codes "out\n"
+answer_text (Err refusal) = refusal_line refusal

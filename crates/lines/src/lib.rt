@@ -1,9 +1,11 @@
 // Calls and answers as lines of text.
 #![tactic(auto)]
 
+mod error;
 mod fields;
 mod reading;
 mod writing;
 
-pub use reading::{Line, read_line};
+pub use error::LineError;
+pub use reading::read_line;
 pub use writing::{answer_line, words_line};

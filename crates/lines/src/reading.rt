@@ -1,62 +1,45 @@
 // Lines that ask for a call.
-ghost use Rattle.std.specs.Prelude.{IfOk, MatchOption};
+ghost use Rattle.std.specs.Prelude.{IfOk, IsErrOf};
 ghost use Rattle.runs.specs.Runs as calls;
 ghost use Rattle.runs.specs.Traces.{call_of};
-ghost use Rattle.lines.specs.Calls.{line_meaning};
+ghost use Rattle.lines.specs.Calls.{line_meaning, no_call};
 ghost use Rattle.lines.specs.Lines.{LineOf, Reads};
+ghost use Rattle.lines.specs.declared.error.LineError.TheVariants.{NotACall};
 
+use crate::LineError;
 use crate::fields::{read_number, read_words};
 use runs::Call;
-use std::alloc::{AllocError, Global};
+use std::alloc::Global;
 
-#[derive(Drop)]
-pub enum Line {
-    // Empty, or a comment.
-    Skipped,
-    Call(Call),
-    NoCall,
-}
-
-// What a line says; it is given without its line feed.
-pub fn read_line(heap: Global, text: &[u8]) -> Result<Line, AllocError>
-    ensures { IfOk result (λ line. Reads text.now (line_meaning line)) }
+// The call that a line asks for, or none: an empty line and a comment are passed over. It is given without its line feed.
+pub fn read_line(heap: Global, text: &[u8]) -> Result<Option<Call>, LineError>
+    ensures read { IfOk result (λ read. Reads text.now (line_meaning read)) }
+    ensures no_call { IsErrOf result NotACall → Reads text.now no_call }
 {
     if text.is_empty() || text[0] == b'#' {
-        return Ok(Line::Skipped);
+        return Ok(None);
     }
-    match read_call(heap, text)? {
-        Some(call) => Ok(Line::Call(call)),
-        None => Ok(Line::NoCall),
-    }
+    Ok(Some(read_call(heap, text)?))
 }
 
 // No name begins with another, so the first that fits is the one.
-fn read_call(heap: Global, text: &[u8]) -> Result<Option<Call>, AllocError>
-    ensures { IfOk result (λ read. MatchOption read ((c : calls.Call) → LineOf c text.now → ⊥) (λ call. LineOf (call_of call) text.now)) }
+fn read_call(heap: Global, text: &[u8]) -> Result<Call, LineError>
+    ensures call { IfOk result (λ call. LineOf (call_of call) text.now) }
+    ensures no_call { IsErrOf result NotACall → (c : calls.Call) → LineOf c text.now → ⊥ }
 {
     if let Some(fields) = text.strip_prefix(b"offer") {
-        let Some(plan) = read_words(heap, fields)? else {
-            return Ok(None);
-        };
-        return Ok(Some(Call::Offer(plan)));
+        return Ok(Call::Offer(read_words(heap, fields)?));
     }
     if let Some(fields) = text.strip_prefix(b"propose") {
-        let Some(room) = read_number(fields) else {
-            return Ok(None);
-        };
-        return Ok(Some(Call::Propose { room }));
+        let room = read_number(fields).ok_or(LineError::NotACall)?;
+        return Ok(Call::Propose { room });
     }
     if let Some(fields) = text.strip_prefix(b"hold") {
-        let Some(list) = read_words(heap, fields)? else {
-            return Ok(None);
-        };
-        return Ok(Some(Call::Hold(list)));
+        return Ok(Call::Hold(read_words(heap, fields)?));
     }
     if let Some(fields) = text.strip_prefix(b"status") {
-        let Some(atom) = read_number(fields) else {
-            return Ok(None);
-        };
-        return Ok(Some(Call::Status { atom }));
+        let atom = read_number(fields).ok_or(LineError::NotACall)?;
+        return Ok(Call::Status { atom });
     }
-    Ok(None)
+    Err(LineError::NotACall)
 }

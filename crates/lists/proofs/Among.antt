@@ -1,6 +1,7 @@
 -- The test whether an atom stands on a list. Assumes nothing.
-use Rattle.std.proofs.Common.{◌≡◌, ℕ, Bool, true, false, ◌||◌, eqb, List, [], ◌∷◌, ◌++◌, refl, ap, ◌∙◌, inl, inr, ⊎_elim, arith}
+use Rattle.std.proofs.Common.{◌≡◌, ℕ, true, ◌||◌, eqb, List, [], ◌∷◌, ◌++◌, refl, inl, inr, ⊎_elim, arith}
 use Rattle.std.proofs.lemmas.Bool.{eq-eqb, eqb-true, or_cases, or_left, or_right}
+use Rattle.std.proofs.lemmas.List.Recursion.{or_push}
 use Rattle.rules.specs.Program.{◌∈◌}
 use Rattle.lists.specs.Lists.{among}
 
@@ -14,14 +15,5 @@ among_in a [] h = let z : ◌≡◌ {A = ℕ} 0 1 = cc in absurd (omega arith)
 among_in a (b ∷ bs) h =
     ⊎_elim (λ (e : eqb a b ≡ true). inl (eqb-true a b e)) (λ (m : among bs a ≡ true). inr (among_in a bs m)) (or_cases (eqb a b) (among bs a) h)
 
-or_turned : (e x y : Bool) → (e || (x || y)) ≡ ((e || x) || y)
-or_turned true x y = refl
-or_turned false x y = refl
-
-or_none : (e : Bool) → (e || false) ≡ e
-or_none true = refl
-or_none false = refl
-
 pub among_push : (xs : List ℕ) (b a : ℕ) → among (xs ++ b ∷ []) a ≡ (among xs a || eqb a b)
-among_push [] b a = or_none (eqb a b)
-among_push (x ∷ xs) b a = ap (λ t. eqb a x || t) (among_push xs b a) ∙ or_turned (eqb a x) (among xs a) (eqb a b)
+among_push xs b a = or_push (λ ys. among ys a) (eqb a) refl (λ y ys. refl) xs b

@@ -1,7 +1,8 @@
 -- How a list is read word by word, and what stands between two words. Assumes nothing.
-use Rattle.std.proofs.Common.{◌≡◌, ℕ, suc, ◌+◌, ◌<◌, ◌≤◌, Bool, true, false, ◌&&◌, ◌||◌, eqb, List, [], ◌∷◌, ◌++◌, map, length, get_or, take, drop, Some, None, Ok, Err, Option, Result, sym, refl, ap, ◌∙◌, subst, ap₂, arith}
+use Rattle.std.proofs.Common.{◌≡◌, ℕ, suc, ◌+◌, ◌<◌, ◌≤◌, false, ◌&&◌, ◌||◌, eqb, List, [], ◌∷◌, ◌++◌, map, length, get_or, take, drop, Some, None, Ok, Err, Option, Result, sym, refl, ap, ◌∙◌, subst, ap₂, arith}
 use Rattle.sets.specs.Limits.{max_atoms}
 use Rattle.std.proofs.lemmas.List.{append-nil, append_assoc, drop_more, drop_all, map_more}
+use Rattle.std.proofs.Math.Bool.{and-true}
 use Rattle.std.proofs.lemmas.Bool.Decides.{nat_tests}
 use Rattle.sets.specs.Sets.{is_atom, has}
 use Rattle.base.specs.Words.{kind, payload}
@@ -57,10 +58,6 @@ behind_push xs place a (Err f) = refl
 abbrev Added : AtomSet → AtomSet → ℕ → Type 0
 Added set after atom = (a : ℕ) → has after a ≡ (has set a || (eqb a atom && is_atom atom))
 
-and_true : (e : Bool) → (e && true) ≡ e
-and_true true = refl
-and_true false = refl
-
 -- the words before a place are read, and their atoms are in the set
 pub record ReadSoFar (n : ℕ) (ws : List ℕ) (set : AtomSet) (last place : ℕ) : Type 0 where
   pub reads : list_of_words n ws ≡ behind (map payload (take place ws)) (read_from n last place (drop place ws))
@@ -81,22 +78,22 @@ module _ (n : ℕ) (ws : List ℕ) (set : AtomSet) (last place : ℕ) (s : ReadS
     abbrev here : ℕ
     here = get_or ws place 0
 
-    next : (m : Option Misfit) → m ≡ member_misfit n last (kind here) (payload here) →
+    next : (m : Option Misfit) → member_misfit n last (kind here) (payload here) ≡ m →
         list_of_words n ws ≡ behind (map payload (take place ws)) (put_or_refuse m place (payload here) (read_from n (payload here) (suc place) (drop (place + 1) ws)))
     next m e =
         let xs : List ℕ = map payload (take place ws) in
         s.reads
         ∙ ap (λ vs. behind xs (read_from n last place vs)) (drop_more ws place 0 inside)
         ∙ ap (behind xs) (read_word n last place here (drop (place + 1) ws))
-        ∙ ap (λ o. behind xs (put_or_refuse o place (payload here) (read_from n (payload here) (suc place) (drop (place + 1) ws)))) (sym e)
+        ∙ ap (λ o. behind xs (put_or_refuse o place (payload here) (read_from n (payload here) (suc place) (drop (place + 1) ws)))) e
 
-    pub so_far_refused : (m : Misfit) → Some m ≡ member_misfit n last (kind here) (payload here) → list_of_words n ws ≡ Err (refused_at m place)
+    pub so_far_refused : (m : Misfit) → member_misfit n last (kind here) (payload here) ≡ Some m → list_of_words n ws ≡ Err (refused_at m place)
     so_far_refused m e = next (Some m) e
 
-    module _ (few : n ≤ max_atoms) (fits : None ≡ member_misfit n last (kind here) (payload here)) (after : AtomSet) where
+    module _ (few : n ≤ max_atoms) (fits : member_misfit n last (kind here) (payload here) ≡ None) (after : AtomSet) where
       more : Added set after (payload here) → ReadSoFar n ws after (payload here) (place + 1)
       more added =
-          let f = fitting n last (kind here) (payload here) (sym fits) in
+          let f = fitting n last (kind here) (payload here) fits in
           let xs : List ℕ = map payload (take place ws) in
           let grown = map_more payload ws place 0 inside in
           let count : suc place ≡ place + 1 = omega arith in
@@ -107,7 +104,7 @@ module _ (n : ℕ) (ws : List ℕ) (set : AtomSet) (last place : ℕ) (s : ReadS
                 ∙ ap₂ (λ ys k. behind ys (read_from n (payload here) k (drop (place + 1) ws))) (sym grown) count;
             holds = λ a.
                 added a
-                ∙ ap₂ (λ x y. x || y) (s.holds a) (ap (λ t. eqb a (payload here) && t) atom ∙ and_true (eqb a (payload here)))
+                ∙ ap₂ (λ x y. x || y) (s.holds a) (ap (λ t. eqb a (payload here) && t) atom ∙ and-true (eqb a (payload here)))
                 ∙ sym (ap (λ ys. among ys a) grown ∙ among_push xs (payload here) a);
             last_high = f.high;
             place_low = omega (arith, s.place_low, f.rises);

@@ -1,23 +1,18 @@
 -- A buffer with the words for the atoms passed in front. Assumes nothing.
-use Rattle.std.proofs.Common.{◌≡◌, ℕ, suc, ◌+◌, ◌-◌, ◌<◌, ◌≤◌, Bool, true, false, cond, List, [], ◌∷◌, ◌++◌, map, length, drop, set, Some, None, Option, sym, refl, ap, ◌∙◌, ⊎_elim, arith}
-use Rattle.std.proofs.lemmas.List.{append_assoc, append-nil, length-append, length-map, map-append, length-drop, drop-drop}
-use Rattle.std.proofs.lemmas.Bool.{cases_Bool}
+use Rattle.std.proofs.Common.{◌≡◌, ℕ, suc, ◌+◌, ◌-◌, ◌<◌, ◌≤◌, Bool, true, false, cond, List, [], ◌∷◌, ◌++◌, map, length, get_or, drop, set, Some, None, sym, refl, ap, ◌∙◌, arith}
+use Rattle.std.proofs.lemmas.List.{append_assoc, append-nil, length-append, length-map, map-append, length-drop, drop_more}
+use Rattle.std.proofs.Math.Seq.{set-append_seam}
 use Rattle.base.specs.Buffers.{written_over}
 use Rattle.sets.specs.Sets.{Atoms, rising}
 use Rattle.sets.proofs.Rising.{length_rising_most}
 use Rattle.lists.specs.Writing.{words_for, word_if}
 
-set_front : {X : Type 0} (new old : List X) (x : X) → 0 < length old → set (new ++ old) (length new) x ≡ new ++ (x ∷ drop 1 old)
-set_front [] [] x h = absurd (omega arith)
-set_front [] (y ∷ old) x h = refl
-set_front (z ∷ new) old x h = ap (λ xs. z ∷ xs) (set_front new old x h)
-
 -- one more is written behind what was
 pub written_more : {X : Type 0} (new old : List X) (x : X) → length new < length old → set (written_over new old) (length new) x ≡ written_over (new ++ (x ∷ [])) old
 written_more new old x h =
     let longer : 1 + length new ≡ length (new ++ (x ∷ [])) = omega (arith, length-append new (x ∷ [])) in
-    set_front new (drop (length new) old) x (omega (arith, length-drop (length new) old))
-    ∙ ap (λ xs. new ++ (x ∷ xs)) (drop-drop 1 (length new) old ∙ ap (λ k. drop k old) (omega (arith, longer)))
+    ap (λ r. set (new ++ r) (length new) x) (drop_more old (length new) x h) ∙ set-append_seam new (get_or old (length new) x) (drop (length new + 1) old) x
+    ∙ ap (λ k. new ++ (x ∷ drop k old)) (omega (arith, longer))
     ∙ sym (append_assoc new (x ∷ []) (drop (length (new ++ (x ∷ []))) old))
 
 pub length_written : {X : Type 0} (new old : List X) → length new ≤ length old → length (written_over new old) ≡ length old
@@ -41,13 +36,18 @@ module _ (marked : Atoms) (word : ℕ → ℕ) where
 
   module _ (a : ℕ) where
     unmarked : word_if marked word a ≡ None → marked a ≡ false
-    unmarked e = ⊎_elim (λ t. absurd (let h : ◌≡◌ {A = Option ℕ} (Some (word a)) None = sym (ap (λ b. cond b (Some (word a)) None) t) ∙ e in let z : ◌≡◌ {A = ℕ} 0 1 = cc in omega arith)) (λ f. f) (cases_Bool (marked a))
+    unmarked = go (marked a)
+      where
+        go : (b : Bool) → cond b (Some (word a)) None ≡ None → b ≡ false
+        go true e = grind arith
+        go false e = refl
 
     marked_by : (w : ℕ) → word_if marked word a ≡ Some w → (marked a ≡ true) × (word a ≡ w)
-    marked_by w e = ⊎_elim
-        (λ t. let h : ◌≡◌ {A = Option ℕ} (Some (word a)) (Some w) = sym (ap (λ b. cond b (Some (word a)) None) t) ∙ e in (t, (cc)))
-        (λ f. absurd (let h : ◌≡◌ {A = Option ℕ} None (Some w) = sym (ap (λ b. cond b (Some (word a)) None) f) ∙ e in let z : ◌≡◌ {A = ℕ} 0 1 = cc in omega arith))
-        (cases_Bool (marked a))
+    marked_by w = go (marked a)
+      where
+        go : (b : Bool) → cond b (Some (word a)) None ≡ Some w → (b ≡ true) × (word a ≡ w)
+        go true e = (refl, cc)
+        go false e = grind arith
 
   -- the atoms below `atom` have been passed
   pub record Passed (old out : List ℕ) (atom count : ℕ) : Type 0 where

@@ -2,10 +2,11 @@
 ghost use Rattle.std.specs.Prelude.{◌≡◌, min};
 ghost use Rattle.sets.specs.Limits.{max_atoms};
 ghost use Rattle.base.specs.Words.{kind, payload};
+ghost use Rattle.base.specs.Loading.{Fitted};
 ghost use Rattle.lists.specs.Lists.{member_misfit, list_of_words, ListRead};
 ghost use Rattle.lists.specs.Laws.{TakenExactlyIfRising, RefusedWhereNoListGoesOn};
 
-use base::{Kind, Misfit, Refusal, kind_of, payload_of};
+use base::{Kind, Misfit, Refusal, Word};
 use sets::{AtomSet, MAX_ATOMS};
 
 // The set of the atoms on a list over the atoms 1 to `atoms`, of which a set holds the first 1,024.
@@ -16,29 +17,29 @@ pub fn read_list(words: &[u32], atoms: u32) -> Result<AtomSet, Refusal>
     let most = atoms.min(MAX_ATOMS);
     let mut set = AtomSet::new();
     let mut last = 0;
-    for place in 0..words.len() {
-        if let Some(misfit) = misfit_of(words[place], last, most) {
-            return Err(misfit.at(place as u32));
-        }
-        last = payload_of(words[place]);
+    for (place, word) in words.iter().enumerate() {
+        last = member(*word, last, most).map_err(|misfit| misfit.at(place as u32))?;
         let _ = set.insert(last);
     }
     Ok(set)
 }
 
-// Why a word does not fit behind the atom `last`.
-fn misfit_of(word: u32, last: u32, most: u32) -> Option<Misfit>
-    ensures { result ≡ member_misfit most last (kind word) (payload word) }
+// The atom of a word that fits behind the atom `last`.
+fn member(word: u32, last: u32, most: u32) -> Result<u32, Misfit>
+    ensures { Fitted (member_misfit most last (kind word) (payload word)) (payload word) result }
 {
-    let Kind::Member = kind_of(word) else {
-        return Some(Misfit::NoForm);
+    let Word {
+        kind: Kind::Member,
+        payload: atom,
+    } = Word::from(word)
+    else {
+        return Err(Misfit::NoForm);
     };
-    let atom = payload_of(word);
     if atom == 0 || atom > most {
-        return Some(Misfit::OutOfRange);
+        return Err(Misfit::OutOfRange);
     }
     if atom <= last {
-        return Some(Misfit::NotRising);
+        return Err(Misfit::NotRising);
     }
-    None
+    Ok(atom)
 }

@@ -7,13 +7,13 @@ ghost use Rattle.sets.specs.Limits.{max_atoms};
 ghost use Rattle.sets.specs.Sets.{Atoms, has};
 ghost use Rattle.lists.specs.Writing.{list_room, words_for, word_if};
 
-use base::{Kind, Refusal, word_of};
+use base::{Kind, Refusal, Word};
 use sets::{AtomSet, MAX_ATOMS};
 
 // Words that a buffer for a list must have.
 pub const LIST_ROOM: usize = MAX_ATOMS as usize;
 
-// Marks on atoms, each with a word for its atom.
+// Marks on atoms, each with a word for its atom; a trait, since a closure would ask `write_words` for a `requires`.
 pub trait AtomMarks {
     ghost marked: { Self → Atoms };
 
@@ -33,6 +33,7 @@ pub fn write_words<M: AtomMarks>(marks: &M, atoms: u32, out: &mut [u32]) -> Resu
             needed: LIST_ROOM as u32,
         });
     }
+    // Not a chain of `filter_map`: the checker's own part of the proof of a `for` over one fails in a generic function.
     let mut count = 0;
     for atom in 1..atoms.min(MAX_ATOMS) + 1 {
         let Some(word) = marks.word_for(atom) else {
@@ -50,10 +51,13 @@ impl AtomMarks for AtomSet {
 
     ghost word = { λ _. words.word Member };
 
+    #[tactic(auto, using(base::proofs::WordForms::payload_small, sets::proofs::Sets::has_high))]
     fn word_for(&self, atom: u32) -> Option<u32> {
-        if !self.contains(atom) {
-            return None;
-        }
-        Some(word_of(Kind::Member, atom))
+        self.contains(atom).then(|| {
+            u32::from(Word {
+                kind: Kind::Member,
+                payload: atom,
+            })
+        })
     }
 }

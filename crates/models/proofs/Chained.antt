@@ -1,94 +1,72 @@
 -- Chains of positions, and one position more. Assumes nothing.
-use Rattle.std.proofs.Common.{◌≡◌, ℕ, zero, suc, ◌+◌, ◌<◌, ◌≤◌, length, get_or, set, replicate, sym, refl, ap, ◌∙◌, subst, ⊎_elim, arith}
-use Rattle.std.proofs.lemmas.List.{length-set, length-replicate, get_or-set_same, get_or-set_other}
-use Rattle.std.proofs.lemmas.Bool.{cases_eq}
-use Rattle.models.specs.Chains.{atom_places, positions, Leads, Listed, Sane}
-use Rattle.models.specs.Chains.Leads.{here, on}
-use Rattle.models.specs.declared.occurrences.Occurrences.{Occurrences}
+use Rattle.std.proofs.Common.{◌≡◌, ℕ, zero, suc, ◌<◌, ◌≤◌, cond, eqb, List, [], ◌∷◌, ◌++◌, length, get_or, set, replicate, refl, sym, ap, ◌∙◌, subst, inl, inr, ⊎_elim, arith}
+use Rattle.std.proofs.lemmas.List.{get_or_push, get_or_append_left, get_or-set_same, get_or-set_other}
+use Rattle.std.proofs.lemmas.Bool.{cases_eq, eq-eqb, ne_eqb}
+use Rattle.rules.specs.Program.{◌∈◌}
+use Rattle.models.specs.Chains.{no_position, chain, Falling}
+use Rattle.models.specs.declared.occurrences.Position.{Position}
 
--- the index with a position of rule r in front of the chain of an atom
-abbrev pub added : Occurrences → ℕ → ℕ → Occurrences
-added o atom r = record {
-  first = set o.first atom (o.used + 1);
-  next = set o.next (o.used + 1) (get_or o.first atom 0);
-  rule = set o.rule (o.used + 1) r;
-  used = o.used + 1;
-}
+module _ (ps : List Position) (falls : Falling ps) where
+  -- a chain ends within as many positions as it starts from
+  pub enough : (n m at : ℕ) → at ≤ n → at ≤ m → at ≤ length ps → chain ps n at ≡ chain ps m at
+  enough zero zero at a b c = refl
+  enough zero (suc m) zero a b c = refl
+  enough zero (suc m) (suc k) a b c = absurd (omega arith)
+  enough (suc n) zero zero a b c = refl
+  enough (suc n) (suc m) zero a b c = refl
+  enough (suc n) zero (suc k) a b c = absurd (omega arith)
+  enough (suc n) (suc m) (suc k) a b c =
+      let p = get_or ps k no_position in
+      let low = falls k (omega arith) in
+      ap (λ rules. p.rule ∷ rules) (enough n m p.next (omega (arith, low)) (omega (arith, low)) (omega (arith, low)))
 
-module _ (o : Occurrences) (atom r : ℕ) (small : atom < length o.first) (fits : o.used + 1 < length o.next) (fits' : o.used + 1 < length o.rule) where
-  abbrev at : ℕ
-  at = o.used + 1
+  module _ (p : Position) (next : p.next ≤ length ps) where
+    grown : (n at : ℕ) → at ≤ length ps → chain (ps ++ p ∷ []) n at ≡ chain ps n at
+    grown zero at h = refl
+    grown (suc n) zero h = refl
+    grown (suc n) (suc k) h =
+        let same : get_or (ps ++ p ∷ []) k no_position ≡ get_or ps k no_position = get_or_append_left ps (p ∷ []) no_position k (omega arith) in
+        let low = falls k (omega arith) in
+        ap (λ (q : Position). q.rule ∷ chain (ps ++ p ∷ []) n q.next) same
+        ∙ ap (λ rules. (get_or ps k no_position).rule ∷ rules) (grown n (get_or ps k no_position).next (omega (arith, low)))
 
-  at_first : get_or (added o atom r).first atom 0 ≡ o.used + 1
-  at_first = get_or-set_same o.first atom (o.used + 1) 0 small
+    -- the chain from the position behind the others
+    from_last : (n : ℕ) → n ≡ suc (length ps) → chain (ps ++ p ∷ []) n n ≡ p.rule ∷ chain ps p.next p.next
+    from_last n e =
+        ap (λ m. chain (ps ++ p ∷ []) m m) e
+        ∙ ap (λ (q : Position). q.rule ∷ chain (ps ++ p ∷ []) (length ps) q.next) (get_or_push ps p no_position (length ps) refl)
+        ∙ ap (λ rules. p.rule ∷ rules) (grown (length ps) p.next next ∙ enough (length ps) p.next p.next next (omega arith) next)
 
-  at_next : get_or (added o atom r).next (o.used + 1) 0 ≡ get_or o.first atom 0
-  at_next = get_or-set_same o.next (o.used + 1) (get_or o.first atom 0) 0 fits
-
-  at_rule : get_or (added o atom r).rule (o.used + 1) 0 ≡ r
-  at_rule = get_or-set_same o.rule (o.used + 1) r 0 fits'
-
-  other_next : (k : ℕ) → k ≤ o.used → get_or (added o atom r).next k 0 ≡ get_or o.next k 0
-  other_next k h = get_or-set_other o.next (o.used + 1) k (get_or o.first atom 0) 0 (λ e. omega arith)
-
-  other_rule : (k : ℕ) → k ≤ o.used → get_or (added o atom r).rule k 0 ≡ get_or o.rule k 0
-  other_rule k h = get_or-set_other o.rule (o.used + 1) k r 0 (λ e. omega arith)
-
-  pub added_here : Listed (added o atom r) r atom
-  added_here = subst (Leads (added o atom r).next (added o atom r).rule r) (sym at_first) (here (omega arith) at_rule)
-
-  module _ (rules : ℕ) (s : Sane rules o) where
-    leads_kept : (j : ℕ) {k : ℕ} → Leads o.next o.rule j k → k ≤ o.used → Leads (added o atom r).next (added o atom r).rule j k
-    leads_kept j {k} (here p e) h = here p (other_rule k h ∙ e)
-    leads_kept j {k} (on p d) h = on p (subst (Leads (added o atom r).next (added o atom r).rule j) (sym (other_next k h)) (leads_kept j d (omega (arith, s.falls k p h))))
-
-    pub added_kept : (j a : ℕ) → Listed o j a → Listed (added o atom r) j a
-    added_kept j a d =
-        ⊎_elim
-        (λ (e : a ≡ atom).
-        let before : Leads o.next o.rule j (get_or o.first atom 0) = subst (λ b. Listed o j b) e d in
-        let chain = leads_kept j before (s.starts atom) in
-        subst (λ b. Listed (added o atom r) j b) (sym e)
-        (subst (Leads (added o atom r).next (added o atom r).rule j) (sym at_first)
-        (on (omega arith) (subst (Leads (added o atom r).next (added o atom r).rule j) (sym at_next) chain))))
-        (λ ne. subst (Leads (added o atom r).next (added o atom r).rule j) (sym (get_or-set_other o.first atom a (o.used + 1) 0 ne)) (leads_kept j d (s.starts a)))
-        (cases_eq a atom)
-
-    pub added_sane : r < rules → Sane rules (added o atom r)
-    added_sane low =
-        record {
-          firsts = length-set o.first atom (o.used + 1) ∙ s.firsts;
-          nexts = length-set o.next (o.used + 1) (get_or o.first atom 0) ∙ s.nexts;
-          rows = length-set o.rule (o.used + 1) r ∙ s.rows;
-          few = omega (arith, fits, s.nexts);
-          starts = λ a. ⊎_elim
-              (λ (e : a ≡ atom). omega (arith, ap (λ b. get_or (added o atom r).first b 0) e, at_first))
-              (λ ne. omega (arith, get_or-set_other o.first atom a (o.used + 1) 0 ne, s.starts a))
-              (cases_eq a atom);
-          falls = λ k p h. ⊎_elim
-              (λ (e : k ≡ o.used + 1). omega (arith, ap (λ b. get_or (added o atom r).next b 0) e, at_next, s.starts atom))
-              (λ ne. let h' : k ≤ o.used = omega arith in omega (arith, other_next k h', s.falls k p h'))
-              (cases_eq k (o.used + 1));
-          valid = λ k p h. ⊎_elim
-              (λ (e : k ≡ o.used + 1). omega (arith, ap (λ b. get_or (added o atom r).rule b 0) e, at_rule))
-              (λ ne. let h' : k ≤ o.used = omega arith in omega (arith, other_rule k h', s.valid k p h'))
-              (cases_eq k (o.used + 1));
-        }
+    -- the chains of all atoms with that position in front of one of them
+    module _ (first : List ℕ) (starts : (a : ℕ) → get_or first a 0 ≤ length ps) (atom : ℕ) (small : atom < length first) where
+      pub added : (n a : ℕ) → n ≡ suc (length ps) →
+          chain (ps ++ p ∷ []) (get_or (set first atom n) a 0) (get_or (set first atom n) a 0)
+          ≡ cond (eqb a atom) (p.rule ∷ chain ps p.next p.next) (chain ps (get_or first a 0) (get_or first a 0))
+      added n a e = ⊎_elim
+          (λ same.
+          let at : get_or (set first atom n) a 0 ≡ n = ap (λ b. get_or (set first atom n) b 0) same ∙ get_or-set_same first atom n 0 small in
+          ap (λ m. chain (ps ++ p ∷ []) m m) at ∙ from_last n e ∙ sym (ap (λ b. cond b (p.rule ∷ chain ps p.next p.next) (chain ps (get_or first a 0) (get_or first a 0))) (eq-eqb a atom same)))
+          (λ other.
+          let at : get_or (set first atom n) a 0 ≡ get_or first a 0 = get_or-set_other first atom a n 0 other in
+          ap (λ m. chain (ps ++ p ∷ []) m m) at ∙ grown (get_or first a 0) (get_or first a 0) (starts a) ∙ sym (ap (λ b. cond b (p.rule ∷ chain ps p.next p.next) (chain ps (get_or first a 0) (get_or first a 0))) (ne_eqb a atom other)))
+          (cases_eq a atom)
 
 zeros : (n a : ℕ) → get_or {A = ℕ} (replicate n 0) a 0 ≡ 0
 zeros zero a = refl
 zeros (suc n) zero = refl
 zeros (suc n) (suc a) = zeros n a
 
--- no position is used yet
-pub bare_sane : (rules : ℕ) (o : Occurrences) → o.first ≡ replicate atom_places 0 → o.next ≡ replicate positions 0 → o.rule ≡ replicate positions 0 → o.used ≡ 0 → Sane rules o
-bare_sane rules o f n r u =
-    record {
-      firsts = ap length f ∙ length-replicate {A = ℕ} atom_places 0;
-      nexts = ap length n ∙ length-replicate {A = ℕ} positions 0;
-      rows = ap length r ∙ length-replicate {A = ℕ} positions 0;
-      few = omega arith;
-      starts = λ a. omega (arith, ap (λ xs. get_or xs a 0) f, zeros atom_places a);
-      falls = λ k p h. absurd (omega arith);
-      valid = λ k p h. absurd (omega arith);
-    }
+-- no chain has begun
+pub bare : (first : List ℕ) (n : ℕ) → first ≡ replicate n 0 → (m a : ℕ) → get_or first a 0 ≤ m
+bare first n e m a = omega (arith, ap (λ xs. get_or xs a 0) e, zeros n a)
+
+-- what one rule in front of an atom's chain adds
+module _ (old new : ℕ → List ℕ) (atom rule : ℕ) (more : (a : ℕ) → new a ≡ cond (eqb a atom) (rule ∷ old atom) (old a)) where
+  pub now_listed : rule ∈ new atom
+  now_listed = subst (λ xs. rule ∈ xs) (sym (more atom ∙ ap (λ b. cond b (rule ∷ old atom) (old atom)) (eq-eqb atom atom refl))) (inl refl)
+
+  pub still_listed : (j a : ℕ) → j ∈ old a → j ∈ new a
+  still_listed j a m = ⊎_elim
+      (λ same. subst (λ xs. j ∈ xs) (sym (more a ∙ ap (λ b. cond b (rule ∷ old atom) (old a)) (eq-eqb a atom same))) (inr (subst (λ b. j ∈ old b) same m)))
+      (λ other. subst (λ xs. j ∈ xs) (sym (more a ∙ ap (λ b. cond b (rule ∷ old atom) (old a)) (ne_eqb a atom other))) m)
+      (cases_eq a atom)

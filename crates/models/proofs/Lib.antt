@@ -1,6 +1,11 @@
 pub mod Lists
 pub mod Bodies
 pub mod Chained
+pub mod Entering
+pub mod Finding
+pub mod Deriving
+pub mod Opened
 pub mod Follows
 pub mod Least
+pub mod Onward
 pub mod Verdicts

@@ -1,18 +1,19 @@
 -- What the verdict on a plan rests on. Assumes nothing.
-use Rattle.std.proofs.Common.{◌≡◌, ℕ, zero, suc, ◌+◌, ◌≤◌, true, false, ◌⊎◌, ◌↔◌, length, Ok, Err, Result, sym, refl, ap, ◌∙◌, subst, inl, inr, ⊎_elim, arith}
-use Rattle.std.proofs.lemmas.Bool.{and_parts, and_from, cases_Bool, cases_eq, false≢true, both_ways}
+use Rattle.std.proofs.Common.{◌≡◌, ℕ, zero, suc, ◌+◌, Bool, true, false, not, ◌&&◌, ◌↔◌, length, Some, None, Option, MatchOption, Ok, Err, Result, sym, refl, ap, ◌∙◌, subst, ⊎_elim, arith}
+use Rattle.std.proofs.lemmas.Bool.{and_parts, and_from, and_cases, not-true, not-false, cases_Bool, false≢true, both_ways}
 use Rattle.base.specs.declared.refusal.Refusal.{Refusal}
 use Rattle.base.specs.declared.refusal.Refusal.TheVariants as refusal
 use Rattle.rules.specs.Program.{◌∈◌, Rule, Program}
 use Rattle.rules.specs.Asked.{no_rule, rule_at}
 use Rattle.rules.proofs.Copied.{at_place}
-use Rattle.sets.specs.Sets.{Atoms, In}
+use Rattle.sets.specs.Sets.{Atoms, In, Least}
 use Rattle.models.specs.Derives.{Derives, AnswerSet}
 use Rattle.models.specs.Derives.Derives.{by_rule}
 use Rattle.models.specs.Judging.{BodyHolds, Satisfied, Unsatisfied, Unfounded, Judged}
-use Rattle.models.specs.Following.{all_of, none_of, firing}
+use Rattle.models.specs.Firing.{all_of, none_of, firing}
 use Rattle.models.proofs.Lists.{place_of}
 use Rattle.models.proofs.Bodies.{all_of_in, all_of_from, none_of_out, none_of_from}
+use Rattle.sets.proofs.Ranges.{FirstOf}
 use Rattle.models.proofs.Least.{within_closed}
 use Rattle.models.proofs.Follows.{rule_in}
 
@@ -25,28 +26,28 @@ module _ (M : Atoms) (r : Rule) where
   fires_if : BodyHolds M r → firing M M r ≡ true
   fires_if h = and_from (all_of M r.pos) (none_of M r.neg) (all_of_from M r.pos h.positive) (none_of_from M r.neg h.negative)
 
-  pub not_satisfied : firing M M r ≡ true → M r.head ≡ false → ¬ Satisfied M r
+  not_satisfied : firing M M r ≡ true → M r.head ≡ false → ¬ Satisfied M r
   not_satisfied e out s = both_ways (M r.head) out (s (holds e))
 
-  pub satisfied_idle : firing M M r ≡ false → Satisfied M r
-  satisfied_idle e h = absurd (false≢true (sym e ∙ fires_if h))
+  -- what is asked of each rule, to find one that is not satisfied
+  abbrev pub broken : Bool
+  broken = firing M M r && not (M r.head)
 
--- no rule up to i is unsatisfied, and so none
-abbrev pub NoneUpTo : Program → Atoms → ℕ → Type 0
-NoneUpTo P M i = (j : ℕ) → j ≤ i → ¬ Unsatisfied P M j
+  broken_so : broken ≡ true → ¬ Satisfied M r
+  broken_so e = let parts = and_parts (firing M M r) (not (M r.head)) e in not_satisfied parts.0 (not-true (M r.head) parts.1)
 
-pub none_first : (P : Program) (M : Atoms) → NoneUpTo P M 0
-none_first P M j h u = omega (arith, u.0, h)
+  whole_so : broken ≡ false → Satisfied M r
+  whole_so e h =
+      ⊎_elim
+      (λ f. absurd (false≢true (sym f ∙ fires_if h)))
+      (not-false (M r.head))
+      (and_cases (firing M M r) (not (M r.head)) e)
 
-pub none_next : (P : Program) (M : Atoms) (i : ℕ) → NoneUpTo P M i → Satisfied M (rule_at P (i + 1)) → NoneUpTo P M (i + 1)
-none_next P M i below here j h u = go (cases_eq j (i + 1))
-  where
-    go : (j ≡ i + 1) ⊎ (j ≡ i + 1 → ⊥) → ⊥
-    go (inl e) = u.2 (subst (λ k. Satisfied M (rule_at P k)) (sym e) here)
-    go (inr ne) = below j (omega arith) u
-
-pub none_all : (P : Program) (M : Atoms) (i : ℕ) → length P.rules ≤ i → NoneUpTo P M i → (j : ℕ) → ¬ Unsatisfied P M j
-none_all P M i h below j u = below j (omega (arith, u.1, h)) u
+-- the first rule for which the question is answered with yes is the first that is not satisfied
+pub first_told : (P : Program) (M : Atoms) (low high : ℕ) (r : Option ℕ) → low ≡ 1 → high ≡ length P.rules → FirstOf (λ i. broken M (rule_at P i)) low high r → MatchOption r ((i : ℕ) → ¬ Unsatisfied P M i) (Least (Unsatisfied P M))
+first_told P M low high None one all h = λ i u. u.2 (whole_so M (rule_at P i) (h i (omega (arith, u.0)) (omega (arith, u.1))))
+first_told P M low high (Some i) one all h =
+    ((omega (arith, h.0), omega (arith, h.1), broken_so M (rule_at P i) h.2), λ j less u. u.2 (whole_so M (rule_at P j) (h.3 j (omega (arith, u.0)) less)))
 
 module _ (P : Program) (M : Atoms) where
   satisfied_in : ((i : ℕ) → ¬ Unsatisfied P M i) → (r : Rule) → r ∈ P.rules → Satisfied M r

@@ -2,7 +2,7 @@
 ghost use Rattle.std.specs.Prelude.{◌≡◌};
 ghost use Rattle.sets.specs.Sets.{has};
 ghost use Rattle.rules.specs.Asked.{rule_at};
-ghost use Rattle.models.specs.Following.{firing};
+ghost use Rattle.models.specs.Firing.{firing};
 
 use rules::RuleSource;
 use sets::AtomSet;
@@ -16,15 +16,11 @@ pub(crate) fn fires<S: RuleSource>(
 ) -> bool
     ensures { result ≡ firing (has blocked.now) (has found.now) (rule_at (S.RuleSource.meaning source.now) rule) }
 {
-    for k in 0..source.body_len(rule) {
-        let literal = source.literal(rule, k + 1);
+    source.body(rule).all(|literal| {
         if literal.positive {
-            if !found.contains(literal.atom) {
-                return false;
-            }
-        } else if blocked.contains(literal.atom) {
-            return false;
+            found.contains(literal.atom)
+        } else {
+            !blocked.contains(literal.atom)
         }
-    }
-    true
+    })
 }

@@ -29,14 +29,8 @@ pub fn judge<S: RuleSource>(source: &S, plan: &AtomSet) -> Result<(), Refusal>
 fn first_unsatisfied<S: RuleSource>(source: &S, set: &AtomSet) -> Option<u32>
     ensures { MatchOption result ((i : ℕ) → ¬ Unsatisfied (S.RuleSource.meaning source.now) (has set.now) i) (Least (Unsatisfied (S.RuleSource.meaning source.now) (has set.now))) }
 {
-    for i in 0..source.rule_count() {
-        if !fires(source, set, set, i + 1) {
-            continue;
-        }
-        if set.contains(source.head(i + 1)) {
-            continue;
-        }
-        return Some(i as u32 + 1);
-    }
-    None
+    (1..=source.rule_count() as u32).find(|&rule| {
+        let rule = rule as usize;
+        fires(source, set, set, rule) && !set.contains(source.head(rule))
+    })
 }

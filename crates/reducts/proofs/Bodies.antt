@@ -1,15 +1,19 @@
--- The bodies of rules, literal by literal, with and without their negative atoms. Assumes nothing.
-use Rattle.std.proofs.Common.{◌≡◌, ℕ, zero, suc, ◌+◌, ◌<◌, ◌≤◌, Bool, true, false, cond, not, ◌&&◌, ◌||◌, List, [], ◌∷◌, ◌++◌, map, length, get_or, drop, sym, refl, ap, ◌∙◌, ⊎_elim, arith}
-use Rattle.std.proofs.lemmas.List.{at_drop_more, at_drop_all, length-map, length-append}
-use Rattle.std.proofs.lemmas.Bool.{true≢false, false≢true}
+-- The bodies of rules, with and without their negative atoms. Assumes nothing.
+use Rattle.std.proofs.Common.{◌≡◌, ℕ, zero, suc, ◌+◌, Bool, true, false, cond, not, ◌&&◌, ◌||◌, List, [], ◌∷◌, ◌++◌, map, length, get_or, sym, refl, ap, ◌∙◌, arith}
+use Rattle.std.specs.List.{list_all, prefix_len}
+use Rattle.std.proofs.Math.ListN.{get_or-map}
+use Rattle.std.proofs.lemmas.List.{length-map, length-append}
+use Rattle.rules.proofs.Lookup.{cons_at}
+use Rattle.std.specs.Iterator.{YieldsFirst}
+use Rattle.std.proofs.lemmas.Iterator.{YieldsList}
+use Rattle.std.proofs.lemmas.Iterator.Consumers.{YieldsList-from_first}
 use Rattle.sets.specs.Sets.{Atoms}
 use Rattle.rules.specs.Program.{Rule, Program, body_size}
-use Rattle.rules.specs.Asked.{plus, minus, body, no_rule, rule_at}
+use Rattle.rules.specs.Asked.{plus, minus, body, no_rule, rule_at, literal_at}
+use Rattle.rules.specs.Iterating.{literals_behind, left_of}
+use Rattle.rules.specs.declared.body.Body.{Body}
 use Rattle.rules.specs.declared.literal.Literal.{Literal}
-use Rattle.rules.proofs.Lookup.{cons_at}
-use Rattle.rules.proofs.Copied.{literal_cases}
-use Rattle.reducts.specs.Reducts.{meets, without_negative}
-use Rattle.reducts.specs.Selected.{positive}
+use Rattle.reducts.specs.Reducts.{meets, unblocked, without_negative, reduct, only}
 
 module _ (r : Rule) where
   pub body_length : length (body r) ≡ body_size r
@@ -18,13 +22,44 @@ module _ (r : Rule) where
   pub next_literal : (k : ℕ) → get_or (plus 0 ∷ body r) (k + 1) (plus 0) ≡ get_or (body r) k (plus 0)
   next_literal k = cons_at (plus 0) (plus 0) (body r) (k + 1) (omega arith) ∙ ap (λ j. get_or (body r) j (plus 0)) (omega arith)
 
-map_at : {X Y : Type 0} (f : X → Y) (xs : List X) (i : ℕ) (d : X) → f (get_or xs i d) ≡ get_or (map f xs) i (f d)
-map_at f [] i d = refl
-map_at f (x ∷ xs) zero d = refl
-map_at f (x ∷ xs) (suc i) d = map_at f xs i d
+pub length_behind : (P : Program) (rule place n : ℕ) → length (literals_behind P rule place n) ≡ n
+length_behind P rule place zero = refl
+length_behind P rule place (suc n) = ap suc (length_behind P rule (suc place) n)
 
-pub positive_rule : (P : Program) (i : ℕ) → without_negative (rule_at P i) ≡ rule_at (positive P) i
-positive_rule P i = map_at without_negative (no_rule ∷ P.rules) i no_rule
+-- an iterator over a rule's body gives the body
+pub gives_body : {S : Type 0} (meaning : S → Program) (made it : Body S) (r : Rule) → left_of meaning made ≡ body r → it ≡ made → YieldsList (YieldsFirst (left_of meaning)) (λ l. l) it (body r)
+gives_body meaning made it r left same = YieldsList-from_first (λ l. l) (left_of meaning) (body r) (ap (left_of meaning) same ∙ left)
+
+-- a literal does not block the rule that it stands in
+abbrev pub passes : Atoms → Literal → Bool
+passes X l = l.positive || not (X l.atom)
+
+module _ (X : Atoms) where
+  unmet : (ns : List ℕ) → list_all (passes X) (map minus ns) ≡ not (meets X ns)
+  unmet [] = refl
+  unmet (n ∷ ns) =
+      elim (X n) as (λ b. (not b && list_all (passes X) (map minus ns)) ≡ not (b || meets X ns)) [
+        | true ↦ refl
+        | false ↦ unmet ns
+      ]
+
+  all_pass : (ps ns : List ℕ) → list_all (passes X) (map plus ps ++ map minus ns) ≡ not (meets X ns)
+  all_pass [] ns = unmet ns
+  all_pass (p ∷ ps) ns = all_pass ps ns
+
+  pub body_passes : (r : Rule) → list_all (passes X) (body r) ≡ unblocked X r
+  body_passes r = all_pass r.pos r.neg
+
+positive_first : (ps ns : List ℕ) → prefix_len (λ l. l.positive) (map plus ps ++ map minus ns) ≡ length ps
+positive_first [] [] = refl
+positive_first [] (n ∷ ns) = refl
+positive_first (p ∷ ps) ns = omega (arith, positive_first ps ns)
+
+pub positive_size : (r : Rule) → prefix_len (λ l. l.positive) (body r) ≡ body_size (without_negative r)
+positive_size r = positive_first r.pos r.neg ∙ omega arith
+
+pub reduct_rule : (P : Program) (X : Atoms) (i : ℕ) → without_negative (rule_at (only (unblocked X) P) i) ≡ rule_at (reduct P X) i
+reduct_rule P X i = sym (get_or-map without_negative (no_rule ∷ (only (unblocked X) P).rules) i no_rule)
 
 -- a literal of a body without the negative ones
 abbrev positive_or_none : Literal → Literal
@@ -41,54 +76,12 @@ both_positive [] (n ∷ ns) (suc k) = both_positive [] ns k
 both_positive (p ∷ ps) ns zero = refl
 both_positive (p ∷ ps) ns (suc k) = both_positive ps ns k
 
-module _ (r : Rule) (k : ℕ) (l : Literal) (read : l ≡ get_or (plus 0 ∷ body r) k (plus 0)) where
-  positive_literal : positive_or_none l ≡ get_or (plus 0 ∷ body (without_negative r)) k (plus 0)
-  unfolding both
-  positive_literal = ap positive_or_none read ∙ both_positive (0 ∷ r.pos) r.neg k
+positive_literal : (r : Rule) (k : ℕ) → positive_or_none (get_or (plus 0 ∷ body r) k (plus 0)) ≡ get_or (plus 0 ∷ body (without_negative r)) k (plus 0)
+unfolding both
+positive_literal r k = both_positive (0 ∷ r.pos) r.neg k
 
-  pub literal_stays : l.positive ≡ true → l ≡ get_or (plus 0 ∷ body (without_negative r)) k (plus 0)
-  literal_stays e = sym (ap (λ b. cond b l (plus 0)) e) ∙ positive_literal
-
-  pub literal_goes : l.positive ≡ false → plus 0 ≡ get_or (plus 0 ∷ body (without_negative r)) k (plus 0)
-  literal_goes e = sym (ap (λ b. cond b l (plus 0)) e) ∙ positive_literal
-
-module _ (r : Rule) (k : ℕ) (l : Literal) (read : l ≡ get_or (plus 0 ∷ body r) (k + 1) (plus 0)) (inside : k < body_size r) where
-  pub in_positive : l.positive ≡ true → k < length r.pos
-  in_positive e = ⊎_elim (λ c. c.0) (λ c. absurd (true≢false (sym e ∙ ap (λ (m : Literal). m.positive) c.1))) (literal_cases r k l read inside)
-
-  pub past_positive : l.positive ≡ false → length r.pos ≤ k
-  past_positive e = ⊎_elim (λ c. absurd (false≢true (sym e ∙ ap (λ (m : Literal). m.positive) c.1))) (λ c. c.0) (literal_cases r k l read inside)
-
-module _ (X : Atoms) where
-  abbrev pub blocks : Literal → Bool
-  blocks l = not l.positive && X l.atom
-
-  -- some negative literal has its atom in the set
-  abbrev pub blocked : List Literal → Bool
-  blocked [] = false
-  blocked (l ∷ ls) = blocks l || blocked ls
-
-  blocked_both : (ps ns : List ℕ) → blocked (map plus ps ++ map minus ns) ≡ meets X ns
-  blocked_both [] [] = refl
-  blocked_both [] (n ∷ ns) = ap (λ b. X n || b) (blocked_both [] ns)
-  blocked_both (p ∷ ps) ns = blocked_both ps ns
-
-  module _ (r : Rule) where
-    pub blocked_start : blocked (drop 0 (body r)) ≡ meets X r.neg
-    blocked_start = blocked_both r.pos r.neg
-
-    pub blocked_end : (k : ℕ) → body_size r ≤ k → blocked (drop k (body r)) ≡ false
-    blocked_end k h = at_drop_all blocked (body r) k (omega (arith, body_length r))
-
-    module _ (k : ℕ) (l : Literal) (inside : k < body_size r) (read : l ≡ get_or (plus 0 ∷ body r) (k + 1) (plus 0)) where
-      blocked_next : (b : Bool) → blocks l ≡ b → blocked (drop k (body r)) ≡ (b || blocked (drop (k + 1) (body r)))
-      blocked_next b e =
-          at_drop_more blocked (body r) k (plus 0) (omega (arith, body_length r))
-          ∙ ap (λ m. blocked (m ∷ drop (k + 1) (body r))) (sym (read ∙ next_literal r k))
-          ∙ ap (λ c. c || blocked (drop (k + 1) (body r))) e
-
-      pub blocked_not : blocks l ≡ false → blocked (drop (k + 1) (body r)) ≡ blocked (drop k (body r))
-      blocked_not e = sym (blocked_next false e)
-
-      pub blocked_here : blocks l ≡ true → blocked (drop k (body r)) ≡ true
-      blocked_here e = blocked_next true e
+pub reduct_literal : (P : Program) (X : Atoms) (i k : ℕ) (l : Literal) → l ≡ literal_at (only (unblocked X) P) i k → positive_or_none l ≡ literal_at (reduct P X) i k
+reduct_literal P X i k l read =
+    ap positive_or_none read
+    ∙ positive_literal (rule_at (only (unblocked X) P) i) k
+    ∙ ap (λ (r : Rule). get_or (plus 0 ∷ body r) k (plus 0)) (reduct_rule P X i)

@@ -1,95 +1,66 @@
--- A table of the numbers of the rules that pass a test: how it is made, and what stands in it. Assumes nothing.
-use Rattle.std.proofs.Common.{◌≡◌, ℕ, ◌+◌, ◌-◌, ◌<◌, ◌≤◌, Bool, true, false, cond, List, [], ◌∷◌, ◌++◌, map, length, get_or, take, set, filter, sym, ap, ◌∙◌, ⊎_elim, append-nil, arith}
-use Rattle.std.proofs.lemmas.List.Elements.{filter_more}
-use Rattle.std.proofs.lemmas.List.{length-map, length-take-le, get_or-map, get_or-take, map-append, take_more_set, take_all}
-use Rattle.std.proofs.lemmas.Bool.{eq-eqb, ne_eqb, cases_eq}
-use Rattle.rules.specs.Program.{Rule, Program, Rising}
+-- The numbers of the rules that pass a test: how they are found, and what stands at them. Assumes nothing.
+use Rattle.std.proofs.Common.{◌≡◌, ℕ, ◌+◌, ◌-◌, ◌≤◌, Bool, true, false, cond, List, [], ◌∷◌, ◌++◌, map, length, get_or, filter, refl, sym, ap, ◌∙◌, append-nil, ap₂, arith}
+use Rattle.std.specs.List.{range_with_len}
+use Rattle.std.proofs.Math.ListN.{get_or-map}
+use Rattle.std.proofs.lemmas.List.{length-map, ext_get_or, map-id}
+use Rattle.std.proofs.lemmas.List.FromFn.{length-range_with_len, length-map-range_with_len, get_or-map-range_with_len, filter_of_map_range_with_len_more}
+use Rattle.std.proofs.lemmas.List.Sums.{length-filter, count_by-le-length}
+use Rattle.rules.specs.Program.{Rule, Program}
 use Rattle.rules.specs.Asked.{no_rule, rule_at}
 use Rattle.rules.proofs.Lookup.{rule_inside}
 use Rattle.rules.proofs.Copied.{at_place}
 use Rattle.reducts.specs.Reducts.{only}
-use Rattle.reducts.specs.Selected.{numbered}
+use Rattle.reducts.specs.Selected.{passing}
 
-rising_wider : (low high : ℕ) (xs : List ℕ) → Rising low high xs → Rising low (high + 1) xs
-rising_wider low high [] r = tt
-rising_wider low high (x ∷ xs) r = (r.0, omega arith, rising_wider x high xs r.2)
+map_filter : {X Y : Type 0} (test : Y → Bool) (f : X → Y) (xs : List X) → map f (filter (λ x. test (f x)) xs) ≡ filter test (map f xs)
+map_filter test f [] = refl
+map_filter test f (x ∷ xs) =
+    elim (test (f x)) as (λ b. map f (cond b (x ∷ filter (λ x. test (f x)) xs) (filter (λ x. test (f x)) xs)) ≡ cond b (f x ∷ filter test (map f xs)) (filter test (map f xs))) [
+      | true ↦ ap (λ ys. f x ∷ ys) (map_filter test f xs)
+      | false ↦ map_filter test f xs
+    ]
 
-rising_more : (low high : ℕ) (xs : List ℕ) → low ≤ high → Rising low high xs → Rising low (high + 1) (xs ++ (high + 1) ∷ [])
-rising_more low high [] h r = (omega arith, omega arith, tt)
-rising_more low high (x ∷ xs) h r = (r.0, omega arith, rising_more x high xs r.1 r.2)
+all_rules : (P : Program) → map (rule_at P) (range_with_len 1 (length P.rules)) ≡ P.rules
+all_rules P =
+    let n = length P.rules in
+    ext_get_or no_rule (map (rule_at P) (range_with_len 1 n)) P.rules
+    (length-map-range_with_len (rule_at P) 1 n)
+    (λ k inside. get_or-map-range_with_len (rule_at P) 1 n k (k + 1) no_rule (omega (arith, length-map-range_with_len (rule_at P) 1 n)) (omega arith) ∙ at_place P k)
 
--- the first `count` numbers are those of the rules that pass among the first i
-pub record Kept (test : Rule → Bool) (P : Program) (i count : ℕ) (numbers : List ℕ) : Type 0 where
-  pub few : count ≤ i
-  pub rises : Rising 0 i (take count numbers)
-  pub same : map (rule_at P) (take count numbers) ≡ filter test (take i P.rules)
+module _ (test : Rule → Bool) (P : Program) where
+  -- the numbers that pass among the first n
+  abbrev pub passing_of : ℕ → List ℕ
+  passing_of n = filter (λ i. test (rule_at P i)) (range_with_len 1 n)
 
-module _ (test : Rule → Bool) (P : Program) (i count : ℕ) (numbers : List ℕ) (inside : i < length P.rules) (k : Kept test P i count numbers) where
-  next : (b : Bool) → b ≡ test (rule_at P (i + 1)) → filter test (take (i + 1) P.rules) ≡ filter test (take i P.rules) ++ cond b (rule_at P (i + 1) ∷ []) []
-  next b e =
-      filter_more test P.rules i no_rule inside
-      ∙ ap (λ (r : Rule). filter test (take i P.rules) ++ cond (test r) (r ∷ []) []) (sym (at_place P i))
-      ∙ ap (λ c. filter test (take i P.rules) ++ cond c (rule_at P (i + 1) ∷ []) []) (sym e)
+  module _ (i : ℕ) (numbers : List ℕ) (found : numbers ≡ passing_of i) where
+    pub few_found : length numbers ≤ i
+    few_found =
+        let q : ℕ → Bool = λ k. test (rule_at P k) in
+        omega (arith, ap length found, length-filter q (range_with_len 1 i), count_by-le-length q (range_with_len 1 i), length-range_with_len 1 i)
 
-  pub kept_out : false ≡ test (rule_at P (i + 1)) → Kept test P (i + 1) count numbers
-  kept_out e = record {
-    few = omega arith;
-    rises = rising_wider 0 i (take count numbers) k.rises;
-    same = k.same ∙ sym (next false e ∙ append-nil (filter test (take i P.rules)));
-  }
+    found_next : (b : Bool) → b ≡ test (rule_at P (i + 1)) → passing_of (i + 1) ≡ numbers ++ cond b ((i + 1) ∷ []) []
+    found_next b e =
+        let q : ℕ → Bool = λ k. test (rule_at P k) in
+        ap (filter q) (sym (map-id (range_with_len 1 (i + 1))))
+        ∙ filter_of_map_range_with_len_more q (λ k. k) 1 i (i + 1) (omega arith)
+        ∙ ap (λ ks. filter q ks ++ cond (q (i + 1)) ((i + 1) ∷ []) []) (map-id (range_with_len 1 i))
+        ∙ ap₂ (λ ks c. ks ++ cond c ((i + 1) ∷ []) []) (sym found) (sym e)
 
-  module _ (room : count < length numbers) where
-    taken : take (count + 1) (set numbers count (i + 1)) ≡ take count numbers ++ (i + 1) ∷ []
-    taken = take_more_set numbers count (i + 1) room
+    pub found_in : true ≡ test (rule_at P (i + 1)) → numbers ++ (i + 1) ∷ [] ≡ passing_of (i + 1)
+    found_in e = sym (found_next true e)
 
-    pub kept_in : true ≡ test (rule_at P (i + 1)) → Kept test P (i + 1) (count + 1) (set numbers count (i + 1))
-    kept_in e = record {
-      few = omega arith;
-      rises = rw taken (rising_more 0 i (take count numbers) (omega arith) k.rises);
-      same =
-          ap (map (rule_at P)) taken
-          ∙ map-append (rule_at P) (take count numbers) ((i + 1) ∷ [])
-          ∙ ap (λ rs. rs ++ rule_at P (i + 1) ∷ []) k.same
-          ∙ sym (next true e);
-    }
+    pub found_out : false ≡ test (rule_at P (i + 1)) → numbers ≡ passing_of (i + 1)
+    found_out e = sym (found_next false e ∙ append-nil numbers)
 
-module _ (P : Program) (total : ℕ) where
-  opened : (numbers : List ℕ) → length P.rules ≡ total → (numbered P total numbers).rules ≡ map (rule_at P) numbers
-  opened numbers e = ap (λ b. cond b (map (rule_at P) numbers) []) (eq-eqb (length P.rules) total e)
+  passing_rules : map (rule_at P) (passing test P) ≡ filter test P.rules
+  passing_rules = map_filter test (rule_at P) (range_with_len 1 (length P.rules)) ∙ ap (filter test) (all_rules P)
 
-  shut : (numbers : List ℕ) → (length P.rules ≡ total → ⊥) → (numbered P total numbers).rules ≡ []
-  shut numbers d = ap (λ b. cond b (map (rule_at P) numbers) []) (ne_eqb (length P.rules) total d)
+  pub passing_count : length (passing test P) ≡ length (filter test P.rules)
+  passing_count = sym (length-map (passing test P) (rule_at P)) ∙ ap length passing_rules
 
-  -- the table, once every rule was asked
-  pub kept_all : (test : Rule → Bool) (i count : ℕ) (numbers : List ℕ) → total ≡ length P.rules → total ≤ i → Kept test P i count numbers → numbered P total (take count numbers) ≡ only test P
-  kept_all test i count numbers e past k =
-      ap (λ rs. record { atoms = P.atoms; rules = rs })
-      (opened (take count numbers) (sym e)
-      ∙ k.same
-      ∙ ap (filter test) (take_all i P.rules (omega arith)))
-
-  module _ (count : ℕ) (numbers : List ℕ) where
-    length_other : (length P.rules ≡ total → ⊥) → 0 ≡ length (numbered P total (take count numbers)).rules
-    length_other d = sym (ap length (shut (take count numbers) d))
-
-    pub length_same : count ≤ length numbers → length P.rules ≡ total → count ≡ length (numbered P total (take count numbers)).rules
-    length_same fits e = sym (ap length (opened (take count numbers) e) ∙ length-map (take count numbers) (rule_at P) ∙ length-take-le count numbers fits)
-
-    module _ (fits : count ≤ length numbers) where
-      -- the length tells whether the numbers were made for this program
-      numbers_inside : (rule : ℕ) → 0 < rule → rule ≤ length (numbered P total (take count numbers)).rules → (length P.rules ≡ total) × (rule ≤ count)
-      numbers_inside rule above below =
-          ⊎_elim
-          (λ e. (e, omega (arith, length_same fits e)))
-          (λ d. absurd (omega (arith, length_other d)))
-          (cases_eq (length P.rules) total)
-
-      pub numbered_rule : (rule : ℕ) → 0 < rule → rule ≤ length (numbered P total (take count numbers)).rules → rule_at P (get_or numbers (rule - 1) 0) ≡ rule_at (numbered P total (take count numbers)) rule
-      numbered_rule rule above below =
-          let made = numbers_inside rule above below in
-          let short : rule - 1 < count = omega arith in
-          let inside : rule - 1 < length (take count numbers) = omega (arith, length-take-le count numbers fits) in
-          sym (rule_inside (numbered P total (take count numbers)) rule (omega arith)
-          ∙ ap (λ rs. get_or rs (rule - 1) no_rule) (opened (take count numbers) made.0)
-          ∙ get_or-map (rule_at P) (take count numbers) (rule - 1) 0 no_rule inside
-          ∙ ap (rule_at P) (get_or-take count numbers (rule - 1) 0 short))
+  -- what stands at the numbers that were found, and outside them
+  pub passing_rule : (rule : ℕ) → (rule ≡ 0 → ⊥) → rule_at P (get_or (passing test P) (rule - 1) 0) ≡ rule_at (only test P) rule
+  passing_rule rule above =
+      sym (get_or-map (rule_at P) (passing test P) (rule - 1) 0)
+      ∙ ap (λ rs. get_or rs (rule - 1) no_rule) passing_rules
+      ∙ sym (rule_inside (only test P) rule above)

@@ -2,8 +2,7 @@
 ghost use Rattle.std.specs.Prelude.{◌≡◌};
 ghost use Rattle.sets.specs.Sets.{has};
 ghost use Rattle.reducts.specs.Reducts.{unblocked, reduct};
-ghost use Rattle.reducts.specs.Selected.{selected, positive};
-ghost use Rattle.reducts.specs.Within.{selected_within, positive_within};
+ghost use Rattle.reducts.specs.Within.{reduct_within};
 
 use crate::selection::{RuleTest, Selection};
 use rules::{Literal, RuleSource};
@@ -12,33 +11,31 @@ use sets::AtomSet;
 // The rules still have their negative atoms.
 #[derive(Drop)]
 pub struct Reduct<S: RuleSource> {
-    rules: Selection<S>,
-    set: AtomSet,
+    rules: Selection<S, Unblocked>,
 }
 
 impl<S: RuleSource> Reduct<S> {
     pub fn new(source: S, set: AtomSet) -> Reduct<S>
-        ensures rules { positive (selected S.RuleSource.meaning result.rules) ≡ reduct (S.RuleSource.meaning source) (has set) }
-        ensures set { result.set ≡ set }
+        ensures rules { ⟦<Reduct<S> as RuleSource>⟧.meaning result ≡ reduct (S.RuleSource.meaning source) (has set) }
+        ensures set { result.rules.test.blocking ≡ set }
     {
         Reduct {
-            rules: Selection::new(source, &Unblocked { blocking: set }),
-            set,
+            rules: Selection::by(source, Unblocked { blocking: set }),
         }
     }
 
     // The set that it was made with.
     pub fn set(&self) -> AtomSet
-        ensures { result ≡ self.now.set }
+        ensures { result ≡ self.now.rules.test.blocking }
     {
-        self.set
+        self.rules.test.blocking
     }
 }
 
 impl<S: RuleSource> RuleSource for Reduct<S> {
-    ghost meaning = { λ s. positive (selected S.RuleSource.meaning s.rules) };
+    ghost meaning = { λ s. reduct (S.RuleSource.meaning s.rules.source) (has s.rules.test.blocking) };
 
-    ghost within = { λ s. positive_within (selected S.RuleSource.meaning s.rules) (selected_within S.RuleSource.meaning S.RuleSource.within s.rules) };
+    ghost within = { λ s. reduct_within (S.RuleSource.meaning s.rules.source) (has s.rules.test.blocking) (S.RuleSource.within s.rules.source) };
 
     fn atom_count(&self) -> u32 {
         self.rules.atom_count()
@@ -53,29 +50,24 @@ impl<S: RuleSource> RuleSource for Reduct<S> {
     }
 
     // The positive atoms come first.
+    #[tactic(auto, using(crate::proofs::Bodies::length_behind))]
     fn body_len(&self, rule: usize) -> usize {
-        let all = self.rules.body_len(rule);
-        for k in 0..all {
-            let literal = self.rules.literal(rule, k + 1);
-            if !literal.positive {
-                return k;
-            }
-        }
-        all
+        self.rules.body(rule).take_while(|l| l.positive).count()
     }
 
     fn literal(&self, rule: usize, place: usize) -> Literal {
         let literal = self.rules.literal(rule, place);
-        if !literal.positive {
-            return Literal::NONE;
+        if literal.positive {
+            literal
+        } else {
+            Literal::NONE
         }
-        literal
     }
 }
 
 // Whether no negative atom of a rule is in a set.
 #[derive(Clone, Copy)]
-struct Unblocked {
+pub struct Unblocked {
     blocking: AtomSet,
 }
 
@@ -83,12 +75,8 @@ impl RuleTest for Unblocked {
     ghost passes = { λ t. unblocked (has t.blocking) };
 
     fn keeps<S: RuleSource>(&self, source: &S, rule: usize) -> bool {
-        for k in 0..source.body_len(rule) {
-            let literal = source.literal(rule, k + 1);
-            if !literal.positive && self.blocking.contains(literal.atom) {
-                return false;
-            }
-        }
-        true
+        source
+            .body(rule)
+            .all(|l| l.positive || !self.blocking.contains(l.atom))
     }
 }

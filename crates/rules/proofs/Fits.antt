@@ -1,30 +1,17 @@
 -- What may be added to a program leaves it well formed and within the limits. Assumes nothing.
-use Rattle.std.proofs.Common.{◌≡◌, ℕ, zero, suc, ◌+◌, ◌-◌, ◌<◌, ◌≤◌, Bool, true, false, ◌⊎◌, List, [], ◌∷◌, ◌++◌, length, get_or, set, Some, None, sym, refl, ap, subst, arith}
+use Rattle.std.proofs.Common.{◌≡◌, ℕ, zero, suc, ◌+◌, ◌-◌, ◌<◌, ◌≤◌, Bool, true, false, ◌⊎◌, List, [], ◌∷◌, ◌++◌, length, get_or, set, None, sym, refl, ap, subst, arith}
 use Rattle.rules.specs.Limits.{max_rules, max_body, max_size}
 use Rattle.std.proofs.ByRecursion.{All-set, All-get_or, All-push}
 use Rattle.std.proofs.lemmas.List.{length-set, length_push}
 use Rattle.std.proofs.lemmas.Bool.Decides.{nat_tests}
-use Rattle.base.specs.declared.misfit.Misfit.TheVariants.{NoForm, OutOfRange, NotRising, PastLimit}
 use Rattle.rules.specs.Program.{Rule, Program, Rising, body_size, weight, RuleOver, Within}
 use Rattle.rules.specs.Asked.{no_rule}
 use Rattle.rules.specs.Growing.{with_rule, longer, last_rule, with_literal, last_of, before, rule_misfit, literal_misfit}
 use Rattle.rules.specs.declared.literal.Literal.{Literal}
 use Rattle.rules.proofs.Lookup.{rule_inside}
 
--- an atom that a program has not
-abbrev Outside : ℕ → ℕ → Type 0
-Outside n a = (a ≡ 0) ⊎ (n < a)
-
-module _ (P : Program) (h : ℕ) where
-  pub rule_past : (max_rules ≤ length P.rules) ⊎ (max_size ≤ weight P.rules) → Some PastLimit ≡ rule_misfit P h
-  rule_past e = grind (arith, nat_tests)
-
-  module _ (few : length P.rules < max_rules) (light : weight P.rules < max_size) where
-    pub rule_outside : Outside P.atoms h → Some OutOfRange ≡ rule_misfit P h
-    rule_outside e = grind (arith, nat_tests)
-
-    pub rule_free : 1 ≤ h → h ≤ P.atoms → None ≡ rule_misfit P h
-    rule_free low high = grind (arith, nat_tests)
+pub rule_free : (P : Program) (h : ℕ) → length P.rules < max_rules → weight P.rules < max_size → 1 ≤ h → h ≤ P.atoms → None ≡ rule_misfit P h
+rule_free P h few light low high = grind (arith, nat_tests)
 
 pub record RuleFits (P : Program) (h : ℕ) : Type 0 where
   pub few : length P.rules < max_rules
@@ -35,24 +22,9 @@ pub record RuleFits (P : Program) (h : ℕ) : Type 0 where
 pub rule_fits : (P : Program) (h : ℕ) → rule_misfit P h ≡ None → RuleFits P h
 rule_fits P h e = record { few = grind (arith, nat_tests); light = grind (arith, nat_tests); low = grind (arith, nat_tests); high = grind (arith, nat_tests) }
 
-module _ (P : Program) (l : Literal) where
-  pub literal_past : (max_body ≤ body_size (last_rule P)) ⊎ (max_size ≤ weight P.rules) → Some PastLimit ≡ literal_misfit P l
-  literal_past e = grind (arith, nat_tests)
-
-  module _ (short : body_size (last_rule P) < max_body) (light : weight P.rules < max_size) where
-    pub literal_misplaced : (length P.rules ≡ 0) ⊎ ((l.positive ≡ true) × (1 ≤ length (last_rule P).neg)) → Some NoForm ≡ literal_misfit P l
-    literal_misplaced e = grind (arith, nat_tests)
-
-    module _ (started : 0 < length P.rules) (placed : (l.positive ≡ false) ⊎ (length (last_rule P).neg ≡ 0)) where
-      pub literal_outside : Outside P.atoms l.atom → Some OutOfRange ≡ literal_misfit P l
-      literal_outside e = grind (arith, nat_tests)
-
-      module _ (low : 1 ≤ l.atom) (high : l.atom ≤ P.atoms) where
-        pub literal_falls : l.atom ≤ before (last_rule P) l → Some NotRising ≡ literal_misfit P l
-        literal_falls e = grind (arith, nat_tests)
-
-        pub literal_free : before (last_rule P) l < l.atom → None ≡ literal_misfit P l
-        literal_free e = grind (arith, nat_tests)
+pub literal_free : (P : Program) (l : Literal) → body_size (last_rule P) < max_body → weight P.rules < max_size → 0 < length P.rules → (l.positive ≡ false) ⊎ (length (last_rule P).neg ≡ 0) →
+    1 ≤ l.atom → l.atom ≤ P.atoms → before (last_rule P) l < l.atom → None ≡ literal_misfit P l
+literal_free P l short light started placed low high e = grind (arith, nat_tests)
 
 pub record LiteralFits (P : Program) (l : Literal) : Type 0 where
   pub started : 0 < length P.rules

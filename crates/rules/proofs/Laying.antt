@@ -1,15 +1,14 @@
 -- A table with one rule or one literal more. Assumes nothing.
 use Rattle.std.proofs.Common.{◌≡◌, ℕ, suc, ◌+◌, ◌-◌, ◌<◌, ◌≤◌, Bool, true, false, List, [], ◌∷◌, ◌++◌, map, length, get_or, take, drop, set, sym, refl, ap, ◌∙◌, subst, ⊎_elim, arith}
 use mathlib.Core.Logic.{∥∥₁_map}
-use Rattle.sets.specs.Limits.{max_atoms}
-use Rattle.std.proofs.lemmas.List.{drop-take, drop-append-le, take-append-le, take_all, length_push, length-set, length-take-le, map-set, map_push, get_or_append_left, get_or_push, get_or-set_same, get_or-set_other}
+use Rattle.std.proofs.lemmas.List.{drop-take, drop-append-le, take-append-le, take_all, length_push, length-set, map-set, map_push, get_or_append_left, get_or_push, get_or-set_same, get_or-set_other}
 use Rattle.std.proofs.lemmas.Bool.{cases_eq}
 use Rattle.rules.specs.Program.{Rule, Program, weight, Within}
 use Rattle.rules.specs.Asked.{rule_at}
 use Rattle.rules.specs.Growing.{with_rule, longer, last_rule, with_literal}
 use Rattle.rules.specs.Laid.{between, no_entry, entry_rule, laid_program, longer_entry, Ordered}
 use Rattle.rules.specs.declared.table.Entry.{Entry}
-use Rattle.rules.proofs.Lookup.{laid_length, laid_rule}
+use Rattle.rules.proofs.Lookup.{laid_length, laid_rule, between_size}
 use Rattle.rules.proofs.Fits.{RuleFits, LiteralFits, rule_weight, rule_within, literal_weight, literal_within}
 
 abbrev pub AllOrdered : List Entry → List ℕ → Type 0
@@ -27,25 +26,6 @@ pub record Laid (n : ℕ) (es : List Entry) (bs : List ℕ) : Type 0 where
   pub last : EndsLast es bs
   pub weighed : Weighed n es bs
   pub kept : ∥ Within (laid_program n es bs) ∥₁
-
-module _ (n : ℕ) (es : List Entry) (bs : List ℕ) (none : es ≡ []) (bare : bs ≡ []) where
-  pub empty_program : laid_program n es bs ≡ record { atoms = n; rules = [] }
-  empty_program = ap (λ xs. record { atoms = n; rules = map (entry_rule bs) xs }) none
-
-  empty_ordered : AllOrdered es bs
-  empty_ordered k h = absurd (omega (arith, ap length none, h))
-
-  empty_last : EndsLast es bs
-  empty_last h = absurd (omega (arith, ap length none, h))
-
-  empty_weighed : Weighed n es bs
-  empty_weighed = omega (arith, ap (λ (p : Program). weight p.rules) empty_program, ap length none, ap length bare)
-
-  empty_within : n ≤ max_atoms → Within (laid_program n es bs)
-  empty_within h = subst Within (sym empty_program) (record { few_atoms = h; few_rules = omega arith; light = omega arith; over = tt })
-
-  pub empty_keeps : n ≤ max_atoms → Laid n es bs
-  empty_keeps h = record { ordered = empty_ordered; last = empty_last; weighed = empty_weighed; kept = ∣ empty_within h ∣₁ }
 
 -- a rule with an empty body, behind the others
 module _ (n : ℕ) (es : List Entry) (bs : List ℕ) (h : ℕ) where
@@ -139,13 +119,13 @@ module _ (bs : List ℕ) (a : ℕ) where
     e = get_or es i no_entry
 
     last_is : entry_rule bs e ≡ last_rule (laid_program n es bs)
-    last_is = laid_rule n es bs (length es) (omega (arith, started)) (omega arith) ∙ ap (rule_at (laid_program n es bs)) (sym (laid_length n es bs))
+    last_is = laid_rule n es bs (length es) (omega (arith, started)) ∙ ap (rule_at (laid_program n es bs)) (sym (laid_length n es bs))
 
     flat : positive ≡ true → e.split ≡ e.end
     flat s =
         let o = ordered i (omega (arith, started)) in
         let none : length (entry_rule bs e).neg ≡ 0 = ap (λ (r : Rule). length r.neg) last_is ∙ f.placed s in
-        let size : length (between e.split e.end bs) ≡ e.end - e.split = length-take-le (e.end - e.split) (drop e.split bs) (omega (arith, lib.ListN.length-drop e.split bs)) in
+        let size = between_size bs e.split e.end o.2 in
         omega arith
 
     last_grown : entry_rule (bs ++ a ∷ []) (longer_entry e positive) ≡ longer (last_rule (laid_program n es bs)) (record { atom = a; positive = positive })

@@ -1,4 +1,5 @@
 pub mod Lookup
+pub mod Bodies
 pub mod Fits
 pub mod Exactly
 pub mod Laying

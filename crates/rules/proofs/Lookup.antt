@@ -1,8 +1,8 @@
 -- What stands at a place that counts from 1. Assumes nothing.
-use Rattle.std.proofs.Common.{◌≡◌, ℕ, zero, suc, ◌+◌, ◌-◌, ◌<◌, ◌≤◌, Bool, ltb, List, [], ◌∷◌, map, length, get_or, take, drop, sym, refl, ap, ◌∙◌, ⊎_elim, arith}
-use Rattle.std.proofs.lemmas.List.{get_or_past, get_or-map, get_or-take, get_or-drop, get_or_append_left, get_or-append_right, length-map, length-take-le, length-drop, length-append}
+use Rattle.std.proofs.Common.{◌≡◌, ℕ, zero, suc, ◌+◌, ◌-◌, ◌<◌, ◌≤◌, Bool, ltb, List, [], ◌∷◌, map, length, get_or, drop, sym, refl, ap, ◌∙◌, ⊎_elim, arith}
+use Rattle.std.proofs.lemmas.List.{get_or_past, get_or-map, get_or-take, get_or-drop, get_or_append_left, get_or-append_right, length-map, length-take-le, length-drop}
 use Rattle.std.proofs.lemmas.Bool.{cases_lt, lt-ltb, le-ltb}
-use Rattle.rules.specs.Program.{Program, body_size}
+use Rattle.rules.specs.Program.{Program}
 use Rattle.rules.specs.Asked.{plus, minus, body, no_rule, rule_at}
 use Rattle.rules.specs.Growing.{last_of}
 use Rattle.rules.specs.Laid.{between, no_entry, entry_rule, laid_program, Ordered}
@@ -23,22 +23,16 @@ module _ (n : ℕ) (entries : List Entry) (atoms : List ℕ) where
   pub laid_length : length (laid_program n entries atoms).rules ≡ length entries
   laid_length = length-map entries (entry_rule atoms)
 
-  pub laid_rule : (i : ℕ) → (i ≡ 0 → ⊥) → i ≤ length entries → entry_rule atoms (get_or entries (i - 1) no_entry) ≡ rule_at (laid_program n entries atoms) i
-  laid_rule i above below = sym (rule_inside (laid_program n entries atoms) i above ∙ get_or-map (entry_rule atoms) entries (i - 1) no_entry no_rule (omega arith))
+  pub laid_rule : (i : ℕ) → (i ≡ 0 → ⊥) → entry_rule atoms (get_or entries (i - 1) no_entry) ≡ rule_at (laid_program n entries atoms) i
+  laid_rule i above = sym (rule_inside (laid_program n entries atoms) i above ∙ lib.ListN.get_or-map (entry_rule atoms) entries (i - 1) no_entry)
 
-  pub laid_none : (i : ℕ) → length entries < i → no_rule ≡ rule_at (laid_program n entries atoms) i
-  laid_none i h = sym (rule_past (laid_program n entries atoms) i (omega (arith, laid_length)))
+pub between_size : (xs : List ℕ) (lo hi : ℕ) → hi ≤ length xs → length (between lo hi xs) ≡ hi - lo
+between_size xs lo hi inside = length-take-le (hi - lo) (drop lo xs) (omega (arith, length-drop lo xs))
 
 module _ (atoms : List ℕ) (e : Entry) (o : Ordered (length atoms) e) where
-  between_length : (a b : ℕ) → b ≤ length atoms → length (between a b atoms) ≡ b - a
-  between_length a b h = length-take-le (b - a) (drop a atoms) (omega (arith, length-drop a atoms))
-
-  pub entry_size : e.end - e.start ≡ body_size (entry_rule atoms e)
-  entry_size = omega (arith, between_length e.start e.split (omega arith), between_length e.split e.end (omega arith))
-
   in_pos : (j : ℕ) → e.start + j < e.split → plus (get_or atoms (e.start + j) 0) ≡ get_or (body (entry_rule atoms e)) j (plus 0)
   in_pos j h =
-      let len : length (between e.start e.split atoms) ≡ e.split - e.start = between_length e.start e.split (omega arith) in
+      let len : length (between e.start e.split atoms) ≡ e.split - e.start = between_size atoms e.start e.split (omega arith) in
       let inside : j < length (between e.start e.split atoms) = omega arith in
       let short : j < e.split - e.start = omega arith in
       sym (get_or_append_left (map plus (entry_rule atoms e).pos) (map minus (entry_rule atoms e).neg) (plus 0) j (omega (arith, length-map (entry_rule atoms e).pos plus))
@@ -47,9 +41,9 @@ module _ (atoms : List ℕ) (e : Entry) (o : Ordered (length atoms) e) where
 
   in_neg : (j : ℕ) → e.split ≤ e.start + j → e.start + j < e.end → minus (get_or atoms (e.start + j) 0) ≡ get_or (body (entry_rule atoms e)) j (plus 0)
   in_neg j h k =
-      let len : length (map plus (entry_rule atoms e).pos) ≡ e.split - e.start = length-map (entry_rule atoms e).pos plus ∙ between_length e.start e.split (omega arith) in
+      let len : length (map plus (entry_rule atoms e).pos) ≡ e.split - e.start = length-map (entry_rule atoms e).pos plus ∙ between_size atoms e.start e.split (omega arith) in
       let rest : ℕ = j - (e.split - e.start) in
-      let inside : rest < length (between e.split e.end atoms) = omega (arith, between_length e.split e.end (omega arith)) in
+      let inside : rest < length (between e.split e.end atoms) = omega (arith, between_size atoms e.split e.end (omega arith)) in
       let short : rest < e.end - e.split = omega arith in
       sym (get_or-append_right (map plus (entry_rule atoms e).pos) (map minus (entry_rule atoms e).neg) (e.split - e.start) j (plus 0) len (omega arith)
       ∙ get_or-map minus (entry_rule atoms e).neg rest 0 (plus 0) inside
@@ -67,28 +61,10 @@ module _ (atoms : List ℕ) (e : Entry) (o : Ordered (length atoms) e) where
       sign : ℕ → Bool → Literal
       sign at b = record { atom = get_or atoms at 0; positive = b }
 
-  pub entry_past : (j : ℕ) → e.end - e.start < j → plus 0 ≡ get_or (plus 0 ∷ body (entry_rule atoms e)) j (plus 0)
-  entry_past j h = sym (get_or_past (plus 0 ∷ body (entry_rule atoms e)) j (plus 0) (omega (arith, entry_size, length-append (map plus (entry_rule atoms e).pos) (map minus (entry_rule atoms e).neg), length-map (entry_rule atoms e).pos plus, length-map (entry_rule atoms e).neg minus)))
-
 last_place : (x : ℕ) (xs : List ℕ) → last_of (x ∷ xs) ≡ get_or (x ∷ xs) (length xs) 0
 last_place x [] = refl
 last_place x (y ∷ ys) = last_place y ys
 
-pub last_at : (xs : List ℕ) → 0 < length xs → get_or xs (length xs - 1) 0 ≡ last_of xs
-last_at [] h = absurd (omega arith)
-last_at (x ∷ xs) h = ap (λ k. get_or (x ∷ xs) k 0) (omega arith) ∙ sym (last_place x xs)
-
-module _ (xs : List ℕ) (lo hi : ℕ) (inside : hi ≤ length xs) where
-  pub between_size : length (between lo hi xs) ≡ hi - lo
-  between_size = length-take-le (hi - lo) (drop lo xs) (omega (arith, length-drop lo xs))
-
-  pub last_between_some : lo < hi → get_or xs (hi - 1) 0 ≡ last_of (between lo hi xs)
-  last_between_some h =
-      let at : lo + (hi - lo - 1) ≡ hi - 1 = omega arith in
-      ap (λ k. get_or xs k 0) (sym at)
-      ∙ sym (get_or-take (hi - lo) (drop lo xs) (hi - lo - 1) 0 (omega arith) ∙ get_or-drop lo xs (hi - lo - 1) 0)
-      ∙ ap (λ k. get_or (between lo hi xs) (k - 1) 0) (sym between_size)
-      ∙ last_at (between lo hi xs) (omega (arith, between_size))
-
-  pub last_between_none : lo ≡ hi → 0 ≡ last_of (between lo hi xs)
-  last_between_none e = let none : hi - lo ≡ 0 = omega arith in sym (ap (λ k. last_of (take k (drop lo xs))) none)
+pub last_at : (xs : List ℕ) → get_or xs (length xs - 1) 0 ≡ last_of xs
+last_at [] = refl
+last_at (x ∷ xs) = ap (λ k. get_or (x ∷ xs) k 0) (omega arith) ∙ sym (last_place x xs)

@@ -6,8 +6,8 @@ use Rattle.rules.specs.Limits.{max_rules, max_body, max_size}
 use Rattle.rules.specs.Program.{Rule, Program, body_size, weight}
 use Rattle.rules.specs.Asked.{rule_at}
 use Rattle.rules.specs.declared.literal.Literal.{Literal}
-use Rattle.rules.specs.declared.table.Rejection.{Rejection}
-use Rattle.rules.specs.declared.table.Rejection.TheVariants.{Unfit, OutOfMemory}
+use Rattle.rules.specs.declared.rejection.Rejection.{Rejection}
+use Rattle.rules.specs.declared.rejection.Rejection.TheVariants.{Unfit, OutOfMemory}
 
 -- one rule more, with an empty body
 abbrev pub with_rule : Program → ℕ → Program

@@ -6,3 +6,5 @@ pub mod Laid
 pub mod Growing
 pub mod Laws
 pub mod Tables
+pub mod Iterating
+pub mod Rejected

@@ -1,5 +1,5 @@
-// One atom of a rule's body, with its sign.
-#[derive(Clone, Copy)]
+// One atom of a rule's body, with its sign. No enum of two signs: what asks for the atom mostly asks whatever the sign.
+#[derive(Clone, Copy, PartialEq, Eq, Debug)]
 pub struct Literal {
     pub atom: u32,
     pub positive: bool,

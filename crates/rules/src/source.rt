@@ -1,9 +1,10 @@
-// What a rule source is asked. Rules and body atoms count from 1.
+// What a rule source is asked. Rules and body atoms count from 1; what is answered outside their range is fixed for all sources.
 ghost use Rattle.std.specs.Prelude.{◌≡◌, length};
 ghost use Rattle.rules.specs.Program.{Program, Within};
-ghost use Rattle.rules.specs.Asked.{head_at, size_at, literal_at};
+ghost use Rattle.rules.specs.Asked.{head_at, size_at, literal_at, rule_at, body};
+ghost use Rattle.rules.specs.Iterating.{left_of};
 
-use crate::Literal;
+use crate::{Body, Literal};
 
 pub trait RuleSource {
     // The rules that it means.
@@ -30,4 +31,13 @@ pub trait RuleSource {
     // One body atom of a rule with its sign, the positive ones first and each run rising; or 0, positive.
     fn literal(&self, rule: usize, place: usize) -> Literal
         ensures { result ≡ literal_at (meaning self.now) rule place };
+
+    // The literals of a rule's body.
+    final fn body(&self, rule: usize) -> Body<'_, Self>
+    where
+        Self: Sized,
+        ensures { left_of meaning result ≡ body (rule_at (meaning self.now) rule) }
+    {
+        Body::of(self, rule)
+    }
 }

@@ -7,10 +7,8 @@ ghost use Rattle.std.specs.Prelude.{◌≡◌, ℕ, ◌+◌, ◌-◌, ◌<◌, l
 ghost use Rattle.rules.specs.Program.{Within, weight};
 ghost use Rattle.rules.specs.Laid.{laid_program, no_entry, Ordered};
 
-use base::Misfit;
-
 // A rule: its head, and where in the body atoms of all rules its own begin, its negative ones begin, and its own end.
-#[derive(Clone, Copy)]
+#[derive(Clone, Copy, Default)]
 pub struct Entry {
     pub head: u32,
     pub start: usize,
@@ -18,6 +16,7 @@ pub struct Entry {
     pub end: usize,
 }
 
+// Tried: each rule with a `Vec` of its own literals; in a checked build it loads up to 1.2 times and copies 1.4 times slower.
 #[derive(Drop)]
 pub struct RuleTable {
     atoms: u32,
@@ -27,11 +26,4 @@ pub struct RuleTable {
     ghost last: { 0 < length entries.items → (get_or entries.items (length entries.items - 1) no_entry).end ≡ length body.items },
     ghost weighed: { weight (laid_program atoms entries.items (body.items)).rules ≡ length entries.items + length body.items },
     ghost kept: { ∥ Within (laid_program atoms entries.items body.items) ∥₁ },
-}
-
-// Why a rule or a literal was not added.
-#[derive(Clone, Copy)]
-pub enum Rejection {
-    Unfit(Misfit),
-    OutOfMemory,
 }

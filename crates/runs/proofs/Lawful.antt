@@ -32,7 +32,7 @@ exact_push P run e old new before f after at =
 module _ (P : Program) (few : P.atoms ≤ max_atoms) where
   -- a plan that passed is an answer set
   passed_answers : (words : List ℕ) → IsPlan P words → AnswerSet P (listed words)
-  passed_answers words p = subst (λ xs. AnswerSet P (among xs)) (sym (ap (map _) p.listed.encoded ∙ payloads 0 P.atoms p.atoms few p.listed.rising)) p.answers
+  passed_answers words p = subst (λ xs. AnswerSet P (among xs)) (sym (ap (map _) p.listed.encoded ∙ payloads 0 P.atoms p.atoms few p.listed.rising)) p.holds
 
   -- the pre-assumptions of a plan that stands pass as a hold list
   proposal_holds : (M : Atoms) → AnswerSet P M → (ws : List ℕ) → Proposal P M ws → IsHold P M ws
@@ -73,7 +73,7 @@ module _ (P : Program) (few : P.atoms ≤ max_atoms) where
                 o.1,
                 o.2,
                 λ f rest is called.
-                    let st' : PlanStands P (calls_of before ++ (propose room ∷ [])) M = plan_stays P (calls_of before) M (propose room) (λ ws e p. let z : ◌≡◌ {A = ℕ} 0 1 = cc in omega arith) st in
+                    let st' : PlanStands P (calls_of before ++ (propose room ∷ [])) M = plan_stays P (calls_of before) M (propose room) (λ ws e p. (cc)) st in
                     let x : Exact P (calls_of before ++ (propose room ∷ [])) (hold o.0) f.answer = subst (λ c. Exact P (calls_of before ++ (propose room ∷ [])) c f.answer) called (next before (record { call = propose room; answer = r }) after at f rest is) in
                     let ans : AnswerSet P M = subst (AnswerSet P) (sym st.is) (passed_answers st.words st.passes) in
                     held_passes (calls_of before ++ (propose room ∷ [])) M st' o.0 (proposal_holds M ans o.0 o.2) f.answer x,

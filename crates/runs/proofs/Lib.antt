@@ -3,4 +3,3 @@ pub mod Standing
 pub mod Steps
 pub mod Lawful
 pub mod Growing
-pub mod Proposing

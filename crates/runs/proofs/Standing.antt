@@ -73,8 +73,8 @@ module _ (P : Program) (calls : List Call) (c : Call) where
 
 pub stands_new : (P : Program) → Stands P [] None None
 stands_new P = record {
-  plan_is = λ M. (λ s. let n = ap length s.split in absurd (omega (arith, length-append s.before (offer s.words ∷ s.after))), λ e. absurd (let z : ◌≡◌ {A = ℕ} 0 1 = cc in omega arith));
-  hold_is = λ M A. (λ s. let n = ap length s.split in absurd (omega (arith, length-append s.before (hold s.words ∷ s.after))), λ e. let h = e.0 in absurd (let z : ◌≡◌ {A = ℕ} 0 1 = cc in omega arith));
+  plan_is = λ M. (λ s. let n = ap length s.split in absurd (omega (arith, length-append s.before (offer s.words ∷ s.after))), λ e. (cc));
+  hold_is = λ M A. (λ s. let n = ap length s.split in absurd (omega (arith, length-append s.before (hold s.words ∷ s.after))), λ e. let h = e.0 in (cc));
 }
 
 pub stands_offer : (P : Program) (calls : List Call) (plan held : Option Atoms) (ws : List ℕ) → Stands P calls plan held → IsPlan P ws → Stands P (calls ++ (offer ws ∷ [])) (Some (listed ws)) None
@@ -84,16 +84,16 @@ stands_offer P calls plan held ws t p = record {
     λ e. record { before = calls; words = ws; after = []; split = refl; passes = p; is = (cc); last = λ _ m. absurd m },
   );
   hold_is = λ M A. (
-    λ s. ⊎_elim (λ o. let e = o.1 in absurd (let z : ◌≡◌ {A = ℕ} 0 1 = cc in omega arith)) (λ o. absurd (o.1 ws refl p)) (hold_back P calls (offer ws) M A s),
-    λ e. let h = e.1 in absurd (let z : ◌≡◌ {A = ℕ} 0 1 = cc in omega arith),
+    λ s. ⊎_elim (λ o. let e = o.1 in (cc)) (λ o. absurd (o.1 ws refl p)) (hold_back P calls (offer ws) M A s),
+    λ e. let h = e.1 in (cc),
   );
 }
 
 pub stands_hold : (P : Program) (calls : List Call) (M : Atoms) (held : Option Atoms) (ws : List ℕ) → Stands P calls (Some M) held → IsHold P M ws → Stands P (calls ++ (hold ws ∷ [])) (Some M) (Some (listed ws))
 stands_hold P calls M held ws t p = record {
   plan_is = λ N. (
-    λ s. ⊎_elim (λ o. let e = o.1 in absurd (let z : ◌≡◌ {A = ℕ} 0 1 = cc in omega arith)) (λ o. (t.plan_is N).0 o.0) (plan_back P calls (hold ws) N s),
-    λ e. plan_stays P calls N (hold ws) (λ xs h _. let z : ◌≡◌ {A = ℕ} 0 1 = cc in omega arith) ((t.plan_is N).1 e),
+    λ s. ⊎_elim (λ o. let e = o.1 in (cc)) (λ o. (t.plan_is N).0 o.0) (plan_back P calls (hold ws) N s),
+    λ e. plan_stays P calls N (hold ws) (λ xs h _. (cc)) ((t.plan_is N).1 e),
   );
   hold_is = λ N A. (
     λ s. ⊎_elim (λ o. let e = o.1 in let i = o.4 in let same : ws ≡ o.0 = cc in ((t.plan_is N).0 o.2, ap Some (ap listed same ∙ sym i)))

@@ -1,12 +1,13 @@
 // What a call answers.
 use base::Refusal;
 
-#[derive(Drop)]
-pub enum Answer {
+#[derive(Drop, PartialEq, Debug)]
+pub enum Reply {
     Passed,
     // The words that it wrote.
     Wrote(Vec<u32>),
     // Whether the atom is in the plan.
     Told(bool),
-    Refused(Refusal),
 }
+
+pub type Answer = Result<Reply, Refusal>;

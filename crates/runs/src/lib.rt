@@ -5,6 +5,6 @@ mod answer;
 mod call;
 mod replaying;
 
-pub use answer::Answer;
+pub use answer::{Answer, Reply};
 pub use call::Call;
 pub use replaying::replay;

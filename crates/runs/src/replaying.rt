@@ -1,13 +1,12 @@
 // Makes calls on one new case, and keeps their answers.
 ghost use Rattle.std.specs.Prelude.{◌≡◌, length, IfOk, OnOk};
 ghost use Rattle.case.specs.Cases.{rules_of, plan_of, hold_of};
-ghost use Rattle.runs.specs.Runs.{ProposeAnswer, verdict, told_answer};
+ghost use Rattle.runs.specs.Runs.{ProposeAnswer};
 ghost use Rattle.runs.specs.Law.{LawOverRuns};
 ghost use Rattle.runs.specs.Traces.{call_of, answer_of, trace};
 ghost use Rattle.runs.specs.Steps.{Step};
 
-use crate::{Answer, Call};
-use base::Refusal;
+use crate::{Answer, Call, Reply};
 use case::Case;
 use lists::LIST_ROOM;
 use rules::RuleSource;
@@ -25,39 +24,21 @@ pub fn replay<S: RuleSource>(
     let mut case = Case::new(heap, source)?;
     let mut answers = Vec::new(heap);
     for call in calls {
-        let answer = make(heap, &mut case, call)?;
-        answers.push(answer)?;
+        answers.push(make(heap, &mut case, call)?)?;
     }
     Ok(answers)
 }
 
+// The plan and the hold list stand apart in the clauses, as each has rules of its own.
 fn make(heap: Global, case: &mut Case, call: &Call) -> Result<Answer, AllocError>
     ensures same { OnOk result (rules_of case.new ≡ rules_of case.old) }
     ensures step { IfOk result (λ answer. Step (rules_of case.old) (call_of call.now) (answer_of answer) (plan_of case.old) (hold_of case.old) (plan_of case.new) (hold_of case.new)) }
 {
     match call {
-        Call::Offer(words) => Ok(passed_or_refused(case.offer(words.as_slice()))),
+        Call::Offer(words) => Ok(case.offer(words).map(|()| Reply::Passed)),
         Call::Propose { room } => propose(heap, case, *room),
-        Call::Hold(words) => Ok(passed_or_refused(case.hold(words.as_slice()))),
-        Call::Status { atom } => Ok(told_or_refused(case.status(*atom))),
-    }
-}
-
-fn passed_or_refused(res: Result<(), Refusal>) -> Answer
-    ensures { answer_of result ≡ verdict res }
-{
-    match res {
-        Ok(()) => Answer::Passed,
-        Err(refusal) => Answer::Refused(refusal),
-    }
-}
-
-fn told_or_refused(res: Result<bool, Refusal>) -> Answer
-    ensures { answer_of result ≡ told_answer res }
-{
-    match res {
-        Ok(inside) => Answer::Told(inside),
-        Err(refusal) => Answer::Refused(refusal),
+        Call::Hold(words) => Ok(case.hold(words).map(|()| Reply::Passed)),
+        Call::Status { atom } => Ok(case.status(*atom).map(Reply::Told)),
     }
 }
 
@@ -66,11 +47,10 @@ fn propose(heap: Global, case: &Case, room: u32) -> Result<Answer, AllocError>
     ensures { IfOk result (λ answer. ProposeAnswer (rules_of case.now) (plan_of case.now) room (answer_of answer)) }
 {
     let mut words = vec![in heap; 0; LIST_ROOM.min(room as usize)]?;
-    match case.propose(words.as_mut_slice()) {
-        Ok(count) => {
+    Ok(
+        case.propose(&mut words).map(|count| {
             words.truncate(count);
-            Ok(Answer::Wrote(words))
-        }
-        Err(refusal) => Ok(Answer::Refused(refusal)),
-    }
+            Reply::Wrote(words)
+        }),
+    )
 }

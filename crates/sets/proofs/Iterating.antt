@@ -1,17 +1,12 @@
--- What is left of a set after its least member, and the list that an iterator over a set gives. Assumes nothing.
-use Rattle.std.proofs.Common.{◌≡◌, ℕ, ◌+◌, ◌<◌, ◌≤◌, Bool, true, false, ◌&&◌, leb, List, [], ◌∷◌, length, get_or, Some, None, Option, sym, ap, ◌∙◌, ⊎_elim, arith}
-use Rattle.std.specs.Iterator.{Yields}
-use Rattle.std.proofs.lemmas.Iterator.{YieldsList}
-use Rattle.std.proofs.lemmas.Iterator.Consumers.{YieldsList-from_shown, YieldsList-turn, YieldsList-end}
-use Rattle.std.proofs.lemmas.List.{map-id}
+-- What is left of a set after its least member. Assumes nothing.
+use Rattle.std.proofs.Common.{◌≡◌, ℕ, ◌+◌, ◌<◌, ◌≤◌, Bool, true, false, ◌&&◌, leb, [], ◌∷◌, sym, ap, ◌∙◌, ⊎_elim, arith}
 use Rattle.std.proofs.lemmas.Bool.{cases_Bool, cases_lt, and_from, and_left, and_right, le-leb, lt-leb}
 use Rattle.sets.specs.Limits.{max_atoms}
 use Rattle.sets.specs.declared.set.AtomSet.{AtomSet}
-use Rattle.sets.specs.declared.members.Members.{Members}
-use Rattle.sets.specs.Iterating.{left_from, left_of, gives_first}
-use Rattle.sets.specs.Sets.{has, rising, members, Least}
+use Rattle.sets.specs.Iterating.{left_from}
+use Rattle.sets.specs.Sets.{has, rising, Least}
 use Rattle.sets.proofs.Rising.{rising_ext, rising_nothing, rising_least}
-use Rattle.sets.proofs.Sets.{has_low, has_high, members_has}
+use Rattle.sets.proofs.Sets.{has_low, has_high}
 
 -- from 1 on, all is left
 pub left_all : (p : ℕ → Bool) → left_from p 1 ≡ rising p max_atoms
@@ -45,18 +40,3 @@ left_least s low a least =
 
     from : (b : ℕ) → b < a → low ≤ b → (leb low b && has s b) ≡ false
     from b l m = and_right (leb low b) (has s b) (⊎_elim (λ e. absurd (least.1 b l (m, e))) (λ e. e) (cases_Bool (has s b)))
-
--- the road of a `for` over the members
-pub members_road : (m : Members) → YieldsList gives_first (λ a. a) m (left_of m)
-members_road m = YieldsList-from_shown gives_first (λ a. a) left_of (λ s t h. ap length h.0) (λ s a t h. h) m
-
--- In a `for` over the members of s: each item is a member, and at the end all have come.
-module _ (s : AtomSet) (m : Members) (fresh : left_of m ≡ members s) (xs : List ℕ) (t : Members) (so_far : Yields gives_first m xs t) (r : Option ℕ) (u : Members)
-  where
-    pub members_turn : (a : ℕ) → r ≡ Some a → gives_first t r u → has s a ≡ true
-    members_turn a is step =
-        let turn = YieldsList-turn (members_road m) xs t so_far r u a is step in
-        ap (has s) (turn.1 ∙ ap (λ l. get_or l (length xs) a) fresh) ∙ members_has s (length xs) a (omega (arith, ap length fresh))
-
-    pub members_end : r ≡ None → gives_first t r u → xs ≡ members s
-    members_end is step = sym (map-id xs) ∙ (YieldsList-end (members_road m) xs t so_far r u is step).0 ∙ fresh

@@ -3,3 +3,4 @@ pub mod Bitset
 pub mod Sets
 pub mod Differing
 pub mod Iterating
+pub mod Ranges

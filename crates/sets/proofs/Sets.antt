@@ -1,10 +1,14 @@
 -- What is known of every set of atoms, and of a set after one bit is written. Assumes nothing.
-use Rattle.std.proofs.Common.{◌≡◌, ℕ, ◌+◌, ◌<◌, ◌≤◌, Bool, true, false, cond, not, ◌&&◌, ◌||◌, eqb, leb, ◌≢◌, List, length, get_or, replicate, sym, refl, ap, ◌∙◌, ⊎_elim}
+use Rattle.std.proofs.Common.{◌≡◌, ℕ, ◌+◌, ◌-◌, ◌/◌, ◌<◌, ◌≤◌, Bool, true, false, cond, not, ◌&&◌, ◌||◌, eqb, leb, ◌≢◌, List, length, get_or, map, set, replicate, sum, sum_by, sym, refl, ap, ◌∙◌, ⊎_elim, arith}
+use lib.Bits.{bit_and, bit_or}
+use Rattle.std.specs.Int.{bit_not, w64}
+use Rattle.std.proofs.lemmas.List.{take_all}
+use Rattle.std.proofs.lemmas.List.Sums.{sum-map}
 use Rattle.std.proofs.lemmas.Bool.{cases_eq, and_parts, and_from, and_left, and_right, leb-true, le-leb, lt-leb, eq-eqb, ne_eqb}
 use Rattle.sets.specs.Limits.{max_atoms}
 use Rattle.sets.specs.declared.set.AtomSet.{AtomSet}
-use Rattle.sets.specs.Sets.{is_atom, marked, has, rising, members, size}
-use Rattle.sets.proofs.Bitset.{marked_zeros}
+use Rattle.sets.specs.Sets.{is_atom, IsPlace, marked, has, rising, members, size}
+use Rattle.sets.proofs.Bitset.{marked_zeros, marked_with, marked_without, marked_by, word_ones, count_words}
 use Rattle.sets.proofs.Rising.{rising_ext, rising_nothing, rising_passes, rising_place, length_rising_one, length_rising_less, length_rising_most}
 
 -- a number from 1 to 1,024 is an atom
@@ -65,6 +69,14 @@ has_place s a h = rising_place (has s) max_atoms a (has_low s a h) (has_high s a
 pub size_marked : (s : AtomSet) → size s ≡ length (rising (marked s.words) max_atoms)
 size_marked s = ap length (rising_ext (has s) (marked s.words) max_atoms (λ b low high. has_marked s b (is_atom_from b low high)))
 
+-- and the ones of the words, summed
+pub size_words : (s : AtomSet) → length s.words ≡ max_atoms / 64 → sum (map word_ones s.words) ≡ size s
+size_words s sixteen =
+    sum-map word_ones s.words
+    ∙ ap (sum_by word_ones) (sym (take_all (max_atoms / 64) s.words (omega arith)))
+    ∙ sym (count_words s.words (max_atoms / 64) (omega arith))
+    ∙ sym (size_marked s)
+
 -- words of zeros mark nothing
 pub has_zeros : (n a : ℕ) → has (record { words = replicate n 0 }) a ≡ false
 unfolding has
@@ -112,24 +124,62 @@ cond_and true false = refl
 cond_and false true = refl
 cond_and false false = refl
 
-module _ (s : AtomSet) (words : List ℕ) (a : ℕ) (atom : is_atom a ≡ true) where
-  -- one atom more
-  module _ (write : (b : ℕ) → marked words b ≡ cond (eqb b a) true (marked s.words b)) where
-    pub has_more : (b : ℕ) → has (record { words = words }) b ≡ (has s b || (eqb b a && is_atom a))
-    has_more b = has_written s words a true atom write b ∙ cond_or (eqb b a) (has s b) ∙ ap (λ t. has s b || (eqb b a && t)) (sym atom)
+-- The bit of atom a, tested, set and cleared.
+module _ (s : AtomSet) (a : ℕ) (p : ℕ × ℕ) (place : IsPlace a p) (sixteen : length s.words ≡ max_atoms / 64) where
+  inside : (a - 1) / 64 < length s.words
+  inside = omega (arith, is_atom_high a place.atom)
 
-    pub size_more : has s a ≡ false → size (record { words = words }) ≡ size s + 1
-    size_more out =
-        length_rising_one (has s) (has (record { words = words })) a (is_atom_low a atom) out (has_here s words a true atom write)
-        (λ b d. sym (has_there s words a true atom write b d)) max_atoms (is_atom_high a atom)
+  pub has_test : not (eqb (bit_and (get_or s.words p.0 0) p.1) 0) ≡ has s a
+  has_test = marked_by s.words a (is_atom_low a place.atom) inside p.0 p.1 place.word place.bit ∙ sym (has_marked s a place.atom)
 
-  -- one atom less
-  module _ (write : (b : ℕ) → marked words b ≡ cond (eqb b a) false (marked s.words b)) where
-    pub has_less : (b : ℕ) → has (record { words = words }) b ≡ (has s b && not (eqb b a))
-    has_less b = has_written s words a false atom write b ∙ cond_and (eqb b a) (has s b)
+  -- a bit that is written as it was leaves the set as it was
+  size_same : (words : List ℕ) (v : Bool) → ((b : ℕ) → marked words b ≡ cond (eqb b a) v (marked s.words b)) → has s a ≡ v → size (record { words = words }) ≡ size s
+  size_same words v write e =
+      ap length
+      (rising_ext (has (record { words = words })) (has s) max_atoms
+      (λ b low high.
+      has_written s words a v place.atom write b
+      ∙ ⊎_elim (λ q. ap (λ t. cond t v (has s b)) (eq-eqb b a q) ∙ sym e ∙ ap (has s) (sym q)) (λ d. ap (λ t. cond t v (has s b)) (ne_eqb b a d)) (cases_eq b a)))
 
-    pub size_less : has s a ≡ true → size (record { words = words }) + 1 ≡ size s
-    size_less in_set =
-        sym
-        (length_rising_one (has (record { words = words })) (has s) a (is_atom_low a atom) (has_here s words a false atom write) in_set
-        (has_there s words a false atom write) max_atoms (is_atom_high a atom))
+  abbrev with_bit : List ℕ
+  with_bit = set s.words p.0 (bit_or (get_or s.words p.0 0) p.1)
+
+  write_with : (b : ℕ) → marked with_bit b ≡ cond (eqb b a) true (marked s.words b)
+  write_with = marked_with s.words a (is_atom_low a place.atom) inside p.0 p.1 place.word place.bit
+
+  pub has_more : (b : ℕ) → has (record { words = with_bit }) b ≡ (has s b || (eqb b a && is_atom a))
+  has_more b = has_written s with_bit a true place.atom write_with b ∙ cond_or (eqb b a) (has s b) ∙ ap (λ t. has s b || (eqb b a && t)) (sym place.atom)
+
+  pub size_more : (new : Bool) → not new ≡ has s a → size (record { words = with_bit }) ≡ size s + cond new 1 0
+  size_more true e =
+      length_rising_one (has s) (has (record { words = with_bit })) a (is_atom_low a place.atom) (sym e) (has_here s with_bit a true place.atom write_with)
+      (λ b d. sym (has_there s with_bit a true place.atom write_with b d)) max_atoms (is_atom_high a place.atom)
+  size_more false e = omega (arith, size_same with_bit true write_with (sym e))
+
+  abbrev without_bit : List ℕ
+  without_bit = set s.words p.0 (bit_and (get_or s.words p.0 0) (bit_not w64 p.1))
+
+  write_without : (b : ℕ) → marked without_bit b ≡ cond (eqb b a) false (marked s.words b)
+  write_without = marked_without s.words a (is_atom_low a place.atom) inside p.0 p.1 place.word place.bit
+
+  pub has_less : (b : ℕ) → has (record { words = without_bit }) b ≡ (has s b && not (eqb b a))
+  has_less b = has_written s without_bit a false place.atom write_without b ∙ cond_and (eqb b a) (has s b)
+
+  pub size_less : (member : Bool) → member ≡ has s a → size (record { words = without_bit }) + cond member 1 0 ≡ size s
+  size_less true e =
+      sym
+      (length_rising_one (has (record { words = without_bit })) (has s) a (is_atom_low a place.atom) (has_here s without_bit a false place.atom write_without) (sym e)
+      (has_there s without_bit a false place.atom write_without) max_atoms (is_atom_high a place.atom))
+  size_less false e = omega (arith, size_same without_bit false write_without (sym e))
+
+-- a number that is no atom takes nothing out
+pub less_no_atom : (s : AtomSet) (a : ℕ) → is_atom a ≡ false → (b : ℕ) → has s b ≡ (has s b && not (eqb b a))
+less_no_atom s a none b =
+    ⊎_elim
+    (λ e. let out = has_not_atom s b (ap is_atom e ∙ none) in out ∙ sym (and_left (has s b) (not (eqb b a)) out))
+    (λ d. simp (ne_eqb b a d, and_true))
+    (cases_eq b a)
+  where
+    and_true : (x : Bool) → (x && true) ≡ x
+    and_true true = refl
+    and_true false = refl

@@ -1,5 +1,5 @@
 -- What a set of atoms holds, and how many. Assumes nothing.
-use Rattle.std.specs.Prelude.{◌≡◌, ℕ, zero, suc, ◌/◌, ◌%◌, ◌^◌, ◌<◌, Bool, true, false, cond, ◌&&◌, List, [], ◌∷◌, ◌++◌, length, ◌==◌, nat_le, slice_index}
+use Rattle.std.specs.Prelude.{◌≡◌, ℕ, zero, suc, ◌-◌, ◌/◌, ◌%◌, ◌^◌, ◌<◌, Bool, true, false, cond, ◌&&◌, List, [], ◌∷◌, ◌++◌, length, ◌==◌, nat_le, slice_index}
 use Rattle.sets.specs.Limits.{max_atoms}
 use Rattle.sets.specs.declared.set.AtomSet.{AtomSet}
 
@@ -12,6 +12,12 @@ In X a = X a ≡ true
 
 abbrev pub is_atom : ℕ → Bool
 is_atom a = nat_le 1 a && nat_le a max_atoms
+
+-- the word of an atom, and the bit that stands for it there
+pub record IsPlace (a : ℕ) (place : ℕ × ℕ) : Type 0 where
+  pub atom : is_atom a ≡ true
+  pub word : place.0 ≡ (a - 1) / 64
+  pub bit : place.1 ≡ 2 ^ ((a - 1) % 64)
 
 -- bit i of a row of 64-bit words
 abbrev pub bit_of : List ℕ → ℕ → Bool

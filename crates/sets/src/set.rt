@@ -1,6 +1,8 @@
 // Sets of the atoms 1 to 1,024, one bit for each.
 ghost use Rattle.std.specs.Prelude.{◌≡◌, ℕ, ◌+◌, ◌≤◌, true, false, not, ◌&&◌, ◌||◌, if◌then◌else◌, MatchOption, ◌==◌};
-ghost use Rattle.sets.specs.Sets.{is_atom, has, size, Least};
+ghost use Rattle.sets.specs.Sets.{is_atom, IsPlace, has, size, Least};
+
+use std::array;
 
 pub const MAX_ATOMS: u32 = 1024;
 
@@ -26,11 +28,10 @@ impl AtomSet {
     pub fn contains(&self, atom: u32) -> bool
         ensures { result ≡ has self.now atom }
     {
-        if atom == 0 || atom > MAX_ATOMS {
-            return false;
+        match place_of(atom) {
+            Some((word, bit)) => self.words[word] & bit != 0,
+            None => false,
         }
-        let i = atom - 1;
-        (self.words[(i / 64) as usize] >> (i % 64)) & 1 == 1
     }
 
     // Adds an atom, and answers whether it is new; a number that is no atom changes nothing.
@@ -39,12 +40,12 @@ impl AtomSet {
         ensures after { (a : ℕ) → has self.new a ≡ (has self.old a || (a == atom && is_atom atom)) }
         ensures size { size self.new ≡ size self.old + (if result then 1 else 0) }
     {
-        if atom == 0 || atom > MAX_ATOMS || self.contains(atom) {
+        let Some((word, bit)) = place_of(atom) else {
             return false;
-        }
-        let i = atom - 1;
-        self.words[(i / 64) as usize] |= 1 << (i % 64);
-        true
+        };
+        let new = self.words[word] & bit == 0;
+        self.words[word] |= bit;
+        new
     }
 
     // Takes an atom out, and answers whether it was there.
@@ -53,57 +54,52 @@ impl AtomSet {
         ensures after { (a : ℕ) → has self.new a ≡ (has self.old a && not (a == atom)) }
         ensures size { size self.new + (if result then 1 else 0) ≡ size self.old }
     {
-        if !self.contains(atom) {
+        let Some((word, bit)) = place_of(atom) else {
             return false;
-        }
-        let i = atom - 1;
-        self.words[(i / 64) as usize] &= !(1 << (i % 64));
-        true
+        };
+        let member = self.words[word] & bit != 0;
+        self.words[word] &= !bit;
+        member
     }
 
     // The members that another set lacks.
     pub fn difference(&self, other: &AtomSet) -> AtomSet
         ensures { (a : ℕ) → has result a ≡ (has self.now a && not (has other.now a)) }
     {
-        let mut words = [0; SET_WORDS];
-        for i in 0..SET_WORDS {
-            words[i] = self.words[i] & !other.words[i];
+        AtomSet {
+            words: array::from_fn(|i| self.words[i] & !other.words[i]),
         }
-        AtomSet { words }
     }
 
     // How many atoms are in the set: the ones of its words, summed.
     pub fn count(&self) -> u32
         ensures { result ≡ size self.now }
     {
-        let mut ones = 0;
-        for word in &self.words {
-            ones += word.count_ones();
-        }
-        ones
+        self.words.iter().map(|word| word.count_ones()).sum()
     }
 
     // The smallest member from a number on.
     pub fn first_from(&self, low: u32) -> Option<u32>
         ensures { MatchOption result ((a : ℕ) → low ≤ a → has self.now a ≡ false) (Least (λ a. (low ≤ a) × (has self.now a ≡ true))) }
     {
-        for atom in low..MAX_ATOMS + 1 {
-            if self.contains(atom) {
-                return Some(atom);
-            }
-        }
-        None
+        (low..=MAX_ATOMS).find(|&atom| self.contains(atom))
     }
 
     // The smallest member that another set lacks.
     pub fn first_outside(&self, other: &AtomSet) -> Option<u32>
         ensures { MatchOption result ((a : ℕ) → has self.now a ≡ true → has other.now a ≡ true) (Least (λ a. (has self.now a ≡ true) × (has other.now a ≡ false))) }
     {
-        for atom in 1..MAX_ATOMS + 1 {
-            if self.contains(atom) && !other.contains(atom) {
-                return Some(atom);
-            }
-        }
-        None
+        (1..=MAX_ATOMS).find(|&atom| self.contains(atom) && !other.contains(atom))
     }
+}
+
+// The word of an atom, and the bit that stands for it there; a number that is no atom has none.
+fn place_of(atom: u32) -> Option<(usize, u64)>
+    ensures { MatchOption result (is_atom atom ≡ false) (IsPlace atom) }
+{
+    if atom == 0 || atom > MAX_ATOMS {
+        return None;
+    }
+    let i = atom - 1;
+    Some(((i / 64) as usize, 1 << (i % 64)))
 }

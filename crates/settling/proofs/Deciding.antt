@@ -1,6 +1,5 @@
 -- What is settled, derived or assumable is decided, so that a truncated proof of it can be opened. Assumes nothing.
-use Rattle.std.proofs.Common.{◌≡◌, ℕ, Bool, true, false, refl, ⊎_elim}
-use mathlib.Core.Bool.{false≢true}
+use Rattle.std.proofs.Common.{ℕ, ⊎_elim}
 use mathlib.Core.Logic.{∥∥₁_elim, ∥∥₁_map}
 use Rattle.sets.specs.Sets.{Atoms, In}
 use Rattle.rules.specs.Program.{◌∈◌, Rule, Program}
@@ -8,30 +7,16 @@ use Rattle.reducts.specs.Reducts.{negative_reduct}
 use Rattle.models.specs.Derives.{Derives, Exactly, AnswerSet}
 use Rattle.settling.specs.Settling.{T, SettledTrue, SettledFalse, Unsettled, SettledAs}
 use Rattle.settling.specs.Assuming.{NegativeIn, Assumable, Assumption}
-use Rattle.settling.proofs.Finding.{map_dec, both?, not?, in?, find}
-use Rattle.settling.proofs.Deriving.{derives?}
+use Rattle.models.proofs.Finding.{map_dec, both?, not?, in?, find}
+use Rattle.models.proofs.Deriving.{derives?}
+use Rattle.models.proofs.Opened.{opened, in_test?, derived?}
 use Rattle.settling.proofs.PreAssumptions.{T?, K, T_all, U_all}
-
--- a decided property needs no proof but that there is one
-pub opened : {A : Type 0} → Dec A → ∥ A ∥₁ → A
-opened (yes a) t = a
-opened (no n) t = absurd (∥∥₁_elim t (λ x y. absurd x) n)
-
-in_test? : (X : Atoms) (a : ℕ) → Dec (In X a)
-in_test? X a = go (X a)
-  where
-    go : (b : Bool) → Dec (b ≡ true)
-    go true = yes refl
-    go false = no false≢true
 
 -- a test for the atoms of a decided set
 pub exactly_opened : (Y : Atoms) (S : ℕ → Type 0) → ((a : ℕ) → Dec (S a)) → ∥ Exactly Y S ∥₁ → Exactly Y S
 exactly_opened Y S S? t a = ((λ h. opened (S? a) (∥∥₁_map t (λ e. (e a).0 h))), λ s. opened (in_test? Y a) (∥∥₁_map t (λ e. (e a).1 s)))
 
 module _ (P : Program) where
-  pub derived? : (X : Atoms) (a : ℕ) → Dec (Derives P (In X) a)
-  derived? X a = derives? P (In X) (in_test? X) a
-
   pub settled_true? : (a : ℕ) → Dec (SettledTrue P a)
   settled_true? a = map_dec (λ t. (K P, t)) (λ s. T_all P s.0 a s.1) (T? P (K P) a)
 
@@ -48,7 +33,7 @@ module _ (P : Program) where
   assumable? a = map_dec (λ o. record { negative = o.0; unsettled = o.1 }) (λ o. (o.negative, o.unsettled)) (both? (negative_in? a) (unsettled? a))
 
   pub answer_set_opened : (M : Atoms) → ∥ AnswerSet P M ∥₁ → AnswerSet P M
-  answer_set_opened M t = exactly_opened M (Derives P (In M)) (derived? M) t
+  answer_set_opened M t = exactly_opened M (Derives P (In M)) (derived? P M) t
 
 pub settled_as_opened : (P : Program) (M : Atoms) (a : ℕ) → ∥ SettledAs P M a ∥₁ → SettledAs P M a
 settled_as_opened P M a t =

@@ -1,5 +1,3 @@
-pub mod Finding
-pub mod Deriving
 pub mod Stages
 pub mod PreAssumptions
 pub mod Negatives

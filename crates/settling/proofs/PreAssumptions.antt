@@ -9,8 +9,8 @@ use Rattle.models.proofs.Lists.{in_kept, kept_in}
 use Rattle.settling.specs.Settling.{T, U}
 use Rattle.settling.specs.Assuming.{PreAssumption, Assumption}
 use Rattle.settling.specs.Laws.{AllPreAssumptionsAreAnAssumption}
-use Rattle.settling.proofs.Finding.{find, less}
-use Rattle.settling.proofs.Deriving.{shift, antitone, last, derives?}
+use Rattle.models.proofs.Finding.{find, less}
+use Rattle.models.proofs.Deriving.{shift, antitone, last, derives?}
 use Rattle.settling.proofs.Stages.{grows, T_most, U_least}
 
 module _ (P : Program) where
@@ -56,13 +56,10 @@ module _ (P : Program) where
   unfolding K
   U_all k a u = U_least P stage.0 stage.1 k a u
 
--- an answer set lies between every T and every U
+-- an answer set holds every T
 pub T_in : (P : Program) (M : Atoms) → AnswerSet P M → (k a : ℕ) → T P k a → In M a
 T_in P M ans zero a t = absurd t
 T_in P M ans (suc k) a t = (ans a).1 (antitone P (U P k) (In M) (λ b m. antitone P (In M) (T P k) (T_in P M ans k) ((ans b).0 m)) t)
-
-pub in_U : (P : Program) (M : Atoms) → AnswerSet P M → (k a : ℕ) → In M a → U P k a
-in_U P M ans k a m = antitone P (In M) (T P k) (T_in P M ans k) ((ans a).0 m)
 
 -- a rule whose head is not struck stays
 pub stays : (P : Program) (A : Atoms) (r : Rule) → r ∈ P.rules → ¬ In A r.head → r ∈ (negative_reduct P A).rules

@@ -5,7 +5,7 @@ use Rattle.sets.specs.Sets.{Atoms, In}
 use Rattle.rules.specs.Program.{Program}
 use Rattle.models.specs.Derives.{Derives, Exactly}
 use Rattle.settling.specs.Settling.{T, U, SettledTrue, SettledFalse, Unsettled}
-use Rattle.settling.proofs.Deriving.{antitone}
+use Rattle.models.proofs.Deriving.{antitone}
 
 module _ (P : Program) where
   -- deriving twice grows with its set

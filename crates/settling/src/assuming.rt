@@ -16,8 +16,8 @@ pub fn assumable<S: RuleSource>(source: &S, unsettled: &AtomSet) -> AtomSet
     ensures law { AllPreAssumptionsAreAnAssumption }
 {
     let mut found = AtomSet::new();
-    for i in 0..source.rule_count() {
-        add_negative(source, i + 1, unsettled, &mut found);
+    for rule in 1..=source.rule_count() {
+        add_negative(source, rule, unsettled, &mut found);
     }
     found
 }
@@ -26,14 +26,9 @@ pub fn assumable<S: RuleSource>(source: &S, unsettled: &AtomSet) -> AtomSet
 fn add_negative<S: RuleSource>(source: &S, rule: usize, unsettled: &AtomSet, found: &mut AtomSet)
     ensures { (a : ℕ) → In (has found.new) a ↔ (In (has found.old) a ⊎ ((a ∈ (rule_at (S.RuleSource.meaning source.now) rule).neg) × In (has unsettled.now) a)) }
 {
-    for k in 0..source.body_len(rule) {
-        let literal = source.literal(rule, k + 1);
-        if literal.positive {
-            continue;
+    for literal in source.body(rule) {
+        if !literal.positive && unsettled.contains(literal.atom) {
+            let _ = found.insert(literal.atom);
         }
-        if !unsettled.contains(literal.atom) {
-            continue;
-        }
-        let _ = found.insert(literal.atom);
     }
 }

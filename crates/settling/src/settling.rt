@@ -21,12 +21,7 @@ impl WellFounded {
     pub fn first_other_than(&self, set: &AtomSet) -> Option<u32>
         ensures { MatchOption result ((a : ℕ) → agrees self.now (has set.now) a ≡ true) (Least (λ a. agrees self.now (has set.now) a ≡ false)) }
     {
-        for atom in 1..MAX_ATOMS + 1 {
-            if !self.settles_as(set, atom) {
-                return Some(atom);
-            }
-        }
-        None
+        (1..=MAX_ATOMS).find(|&atom| !self.settles_as(set, atom))
     }
 
     // Whether an atom is settled as a set has it.
@@ -34,9 +29,10 @@ impl WellFounded {
         ensures { result ≡ agrees self.now (has set.now) atom }
     {
         if set.contains(atom) {
-            return self.trues.contains(atom);
+            self.trues.contains(atom)
+        } else {
+            !self.trues.contains(atom) && !self.unsettled.contains(atom)
         }
-        !self.trues.contains(atom) && !self.unsettled.contains(atom)
     }
 }
 

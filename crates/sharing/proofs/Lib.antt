@@ -1,4 +1,3 @@
-mod Excluding
 mod Passing
 mod RuleOf
 pub mod Misfits

@@ -1,7 +1,7 @@
 -- Which payloads fit in an opening word and in a job word. Assumes nothing.
 use Rattle.std.proofs.Common.{◌≡◌, ℕ, ◌+◌, ◌/◌, ◌^◌, ◌<◌, ◌≤◌, Bool, true, false, not, leb, Some, None, Option, refl, ap, ap₂, ⊎_elim, arith}
 use Rattle.std.proofs.lemmas.Nat.{pow_pos, div_below, le-div}
-use Rattle.std.proofs.lemmas.Bool.{cases_lt, cases_Bool, and_parts, and_from, not-false, leb-true, leb-false, le-leb, lt-leb}
+use Rattle.std.proofs.lemmas.Bool.{cases_lt, and_parts, and_from, not-false, leb-true, leb-false, le-leb, lt-leb}
 use Rattle.base.specs.declared.words.Kind.{Kind}
 use Rattle.base.specs.declared.words.Kind.TheVariants.{Head, Positive, Negative, Member, TrueNode, FalseNode, Link, Opening}
 use Rattle.base.specs.declared.misfit.Misfit.{Misfit}
@@ -50,15 +50,9 @@ within_range c e =
       few_jobs = leb-true c.jobs max_jobs parts.1;
     }
 
-pub counts_outside : (c : Counts) → (InRange c → ⊥) → in_range c ≡ false
-counts_outside c out = ⊎_elim (λ e. absurd (out (within_range c e))) (λ e. e) (cases_Bool (in_range c))
-
 module _ (p : ℕ) where
   pub opening_outside : in_range (counts_in p) ≡ false → opening_misfit Opening p ≡ Some PastLimit
   opening_outside e = ap (λ t. cause_if (not t) PastLimit (cause_if (leb (2 ^ (count_bits + count_bits)) p) NoForm None)) e
-
-  pub opening_spare : in_range (counts_in p) ≡ true → 2 ^ (count_bits + count_bits) ≤ p → opening_misfit Opening p ≡ Some NoForm
-  opening_spare e h = ap₂ (λ t s. cause_if (not t) PastLimit (cause_if s NoForm None)) e (le-leb (2 ^ (count_bits + count_bits)) p h)
 
   pub opening_fits : in_range (counts_in p) ≡ true → p < 2 ^ (count_bits + count_bits) → opening_misfit Opening p ≡ None
   opening_fits e h = ap₂ (λ t s. cause_if (not t) PastLimit (cause_if s NoForm None)) e (lt-leb (2 ^ (count_bits + count_bits)) p h)

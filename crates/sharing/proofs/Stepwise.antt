@@ -1,10 +1,11 @@
 -- The steps of reading a sheet. Assumes nothing.
-use Rattle.std.proofs.Common.{◌≡◌, ℕ, suc, ◌+◌, ◌-◌, ◌<◌, ◌≤◌, List, [], ◌∷◌, length, get_or, drop, Some, None, Ok, Err, sym, refl, ap, ◌∙◌, ap₂, arith}
+use Rattle.std.proofs.Common.{◌≡◌, ℕ, suc, ◌+◌, ◌-◌, ◌<◌, ◌≤◌, List, [], ◌∷◌, length, get_or, drop, Some, None, Ok, Err, Result, sym, refl, ap, ◌∙◌, ap₂, arith}
 use Rattle.std.proofs.lemmas.List.{at_drop_more, at_drop_all}
 use Rattle.base.specs.Words.{kind, payload}
 use Rattle.base.specs.Refusals.{refused_at}
 use Rattle.base.specs.Loading.{or_refuse}
 use Rattle.base.specs.declared.misfit.Misfit.{Misfit}
+use Rattle.base.specs.declared.refusal.Refusal.{Refusal}
 use Rattle.base.specs.declared.refusal.Refusal.TheVariants as refusal
 use Rattle.sharing.specs.Sheets.{Sheet}
 use Rattle.sharing.specs.Encoding.{opening_misfit, counts_in, job_in, job_misfit, with_job, bare, read_jobs, sheet_of_words}
@@ -31,55 +32,51 @@ read_next left S place w ws =
     ap (λ k. or_refuse (job_misfit S.heads (kind w) (payload w)) place (read_jobs left (with_job S (job_in (payload w))) k ws)) next
 
 -- the opening word, and then the others
-pub opening_taken : (ws : List ℕ) (w : ℕ) (c : Counts) → 0 < length ws → w ≡ get_or ws 0 0 → opening_misfit (kind w) (payload w) ≡ None → c ≡ counts_in (payload w) →
-    sheet_of_words ws ≡ read_jobs c.jobs (bare c.heads) 1 (drop 1 ws)
-opening_taken [] w c some first fits is = absurd (omega arith)
-opening_taken (v ∷ ws) w c some first fits is =
-    ap₂ (λ m (k : Counts). or_refuse m 0 (read_jobs k.jobs (bare k.heads) 1 ws))
-    (ap (λ x. opening_misfit (kind x) (payload x)) (sym first) ∙ fits)
-    (ap (λ x. counts_in (payload x)) (sym first) ∙ sym is)
+pub opening_taken : (w : ℕ) (ws : List ℕ) (c : Counts) → opening_misfit (kind w) (payload w) ≡ None → c ≡ counts_in (payload w) →
+    sheet_of_words (w ∷ ws) ≡ read_jobs (c.jobs - 0) (bare c.heads) 1 ws
+opening_taken w ws c fits is =
+    let all : c.jobs ≡ c.jobs - 0 = omega arith in
+    ap₂ (λ m (k : Counts). or_refuse m 0 (read_jobs k.jobs (bare k.heads) 1 ws)) fits (sym is) ∙ ap (λ k. read_jobs k (bare c.heads) 1 ws) all
 
-pub opening_refused : (ws : List ℕ) (w : ℕ) (m : Misfit) → 0 < length ws → w ≡ get_or ws 0 0 → opening_misfit (kind w) (payload w) ≡ Some m → sheet_of_words ws ≡ Err (refused_at m 0)
-opening_refused [] w m some first unfit = absurd (omega arith)
-opening_refused (v ∷ ws) w m some first unfit =
-    ap (λ x. or_refuse x 0 (read_jobs (counts_in (payload v)).jobs (bare (counts_in (payload v)).heads) 1 ws)) (ap (λ x. opening_misfit (kind x) (payload x)) (sym first) ∙ unfit)
-
--- the word at a place, where J jobs are counted
-module _ (J : ℕ) (S : Sheet) (ws : List ℕ) (place : ℕ) where
+-- the word behind so many jobs, of the J that are counted
+module _ (J : ℕ) (S : Sheet) (ws : List ℕ) (i : ℕ) where
   abbrev here : ℕ
-  here = get_or ws place 0
+  here = get_or ws i 0
 
-  step : place ≤ J → place < length ws →
-      read_jobs (J + 1 - place) S place (drop place ws) ≡ or_refuse (job_misfit S.heads (kind here) (payload here)) place (read_jobs (J + 1 - (place + 1)) (with_job S (job_in (payload here))) (place + 1) (drop (place + 1) ws))
-  step counted inside =
-      let left : J + 1 - place ≡ suc (J + 1 - (place + 1)) = omega arith in
-      ap (λ k. read_jobs k S place (drop place ws)) left
-      ∙ at_drop_more (read_jobs (suc (J + 1 - (place + 1))) S place) ws place 0 inside
-      ∙ read_next (J + 1 - (place + 1)) S place here (drop (place + 1) ws)
+  abbrev from : Result Sheet Refusal
+  from = read_jobs (J - i) S (i + 1) (drop i ws)
 
-  pub job_taken : (T : Sheet) (job : Job) → place ≤ J → place < length ws → job_misfit S.heads (kind here) (payload here) ≡ None → job ≡ job_in (payload here) → T ≡ with_job S job →
-      read_jobs (J + 1 - place) S place (drop place ws) ≡ read_jobs (J + 1 - (place + 1)) T (place + 1) (drop (place + 1) ws)
-  job_taken T job counted inside fits is grown =
-      step counted inside
-      ∙ ap₂ (λ m (R : Sheet). or_refuse m place (read_jobs (J + 1 - (place + 1)) R (place + 1) (drop (place + 1) ws))) fits (sym (grown ∙ ap (with_job S) is))
+  module _ (inside : i < length ws) where
+    step : i < J → from ≡ or_refuse (job_misfit S.heads (kind here) (payload here)) (i + 1) (read_jobs (J - (i + 1)) (with_job S (job_in (payload here))) (i + 1 + 1) (drop (i + 1) ws))
+    step counted =
+        let left : J - i ≡ suc (J - (i + 1)) = omega arith in
+        ap (λ k. read_jobs k S (i + 1) (drop i ws)) left
+        ∙ at_drop_more (read_jobs (suc (J - (i + 1))) S (i + 1)) ws i 0 inside
+        ∙ read_next (J - (i + 1)) S (i + 1) here (drop (i + 1) ws)
 
-  pub job_refused : (m : Misfit) → place ≤ J → place < length ws → job_misfit S.heads (kind here) (payload here) ≡ Some m → read_jobs (J + 1 - place) S place (drop place ws) ≡ Err (refused_at m place)
-  job_refused m counted inside unfit =
-      step counted inside ∙ ap (λ x. or_refuse x place (read_jobs (J + 1 - (place + 1)) (with_job S (job_in (payload here))) (place + 1) (drop (place + 1) ws))) unfit
+    pub job_taken : (job : Job) → i < J → job_misfit S.heads (kind here) (payload here) ≡ None → job ≡ job_in (payload here) →
+        from ≡ read_jobs (J - (i + 1)) (with_job S job) (i + 1 + 1) (drop (i + 1) ws)
+    job_taken job counted fits is =
+        step counted ∙ ap₂ (λ m j. or_refuse m (i + 1) (read_jobs (J - (i + 1)) (with_job S j) (i + 1 + 1) (drop (i + 1) ws))) fits (sym is)
 
-  pub job_missing : place ≤ J → length ws ≤ place → read_jobs (J + 1 - place) S place (drop place ws) ≡ Err (refusal.NoForm place)
-  job_missing counted past =
-      let left : J + 1 - place ≡ suc (J + 1 - (place + 1)) = omega arith in
-      ap (λ k. read_jobs k S place (drop place ws)) left
-      ∙ at_drop_all (read_jobs (suc (J + 1 - (place + 1))) S place) ws place past
-      ∙ read_missing (J + 1 - (place + 1)) S place
+    pub job_refused : (m : Misfit) → i < J → job_misfit S.heads (kind here) (payload here) ≡ Some m → from ≡ Err (refused_at m (i + 1))
+    job_refused m counted unfit =
+        step counted ∙ ap (λ x. or_refuse x (i + 1) (read_jobs (J - (i + 1)) (with_job S (job_in (payload here))) (i + 1 + 1) (drop (i + 1) ws))) unfit
 
-  pub jobs_end : place ≡ J + 1 → length ws ≤ place → read_jobs (J + 1 - place) S place (drop place ws) ≡ Ok S
-  jobs_end at past =
-      let left : J + 1 - place ≡ 0 = omega arith in
-      ap (λ k. read_jobs k S place (drop place ws)) left ∙ at_drop_all (read_jobs 0 S place) ws place past ∙ read_end S place
+    pub jobs_extra : J ≤ i → from ≡ Err (refusal.NoForm (i + 1))
+    jobs_extra all =
+        let left : J - i ≡ 0 = omega arith in
+        ap (λ k. read_jobs k S (i + 1) (drop i ws)) left ∙ at_drop_more (read_jobs 0 S (i + 1)) ws i 0 inside ∙ read_extra S (i + 1) here (drop (i + 1) ws)
 
-  pub jobs_extra : place ≡ J + 1 → place < length ws → read_jobs (J + 1 - place) S place (drop place ws) ≡ Err (refusal.NoForm place)
-  jobs_extra at inside =
-      let left : J + 1 - place ≡ 0 = omega arith in
-      ap (λ k. read_jobs k S place (drop place ws)) left ∙ at_drop_more (read_jobs 0 S place) ws place 0 inside ∙ read_extra S place here (drop (place + 1) ws)
+  module _ (past : length ws ≤ i) where
+    pub job_missing : i < J → from ≡ Err (refusal.NoForm (i + 1))
+    job_missing counted =
+        let left : J - i ≡ suc (J - (i + 1)) = omega arith in
+        ap (λ k. read_jobs k S (i + 1) (drop i ws)) left
+        ∙ at_drop_all (read_jobs (suc (J - (i + 1))) S (i + 1)) ws i past
+        ∙ read_missing (J - (i + 1)) S (i + 1)
+
+    pub jobs_end : J ≤ i → from ≡ Ok S
+    jobs_end all =
+        let left : J - i ≡ 0 = omega arith in
+        ap (λ k. read_jobs k S (i + 1) (drop i ws)) left ∙ at_drop_all (read_jobs 0 S (i + 1)) ws i past ∙ read_end S (i + 1)

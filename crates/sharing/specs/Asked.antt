@@ -3,8 +3,8 @@ use Rattle.std.specs.Prelude.{ℕ, Bool, false}
 use Rattle.rules.specs.Program.{Rule}
 use Rattle.rules.specs.Asked.{no_rule}
 use Rattle.sharing.specs.Sheets.{Sheet, excludes, serves, pair_rule, waiting_rule}
-use Rattle.sharing.specs.declared.sheet.asking.Subject.{Subject}
-use Rattle.sharing.specs.declared.sheet.asking.Subject.TheVariants.{Pair, WaitingJob, Nothing}
+use Rattle.sharing.specs.declared.sheet.subject.Subject.{Subject}
+use Rattle.sharing.specs.declared.sheet.subject.Subject.TheVariants.{Pair, WaitingJob, Nothing}
 
 abbrev pub rule_for : Sheet → Subject → Rule
 rule_for S (Pair a) = pair_rule S a

@@ -90,11 +90,6 @@ sheet_of_words [] = Err (refusal.NoForm 0)
 sheet_of_words (w ∷ ws) =
     or_refuse (opening_misfit (kind w) (payload w)) 0 (read_jobs (counts_in (payload w)).jobs (bare (counts_in (payload w)).heads) 1 ws)
 
--- what the reader of one word answers: what the word means, or why it does not fit
-abbrev pub Fitted : {X : Type 0} → Option Misfit → X → Result X Misfit → Type 0
-Fitted misfit x (Ok y) = (misfit ≡ None) × (y ≡ x)
-Fitted misfit x (Err m) = misfit ≡ Some m
-
 -- what a reader of words answers
 abbrev pub SheetRead : Result Sheet Refusal → Result SharingSheet Refusal → Type 0
 SheetRead read (Ok s) = read ≡ Ok (sheet_of s)

@@ -1,13 +1,14 @@
 // Reads a sheet word by word: the opening word, and then as many job words as it counts.
 ghost use Rattle.std.specs.Prelude.{◌≤◌};
 ghost use Rattle.base.specs.Words.{kind, payload};
+ghost use Rattle.base.specs.Loading.{Fitted};
 ghost use Rattle.sharing.specs.Limits.{max_heads};
-ghost use Rattle.sharing.specs.Encoding.{counts_in, opening_misfit, job_in, job_misfit, sheet_of_words, Fitted, SheetRead};
+ghost use Rattle.sharing.specs.Encoding.{counts_in, opening_misfit, job_in, job_misfit, sheet_of_words, SheetRead};
 
 use crate::SharingSheet;
 use crate::limits::{COUNT_BITS, INK_BITS, MAX_HEADS, MAX_JOBS};
 use crate::sheet::Job;
-use base::{Kind, Misfit, Refusal, kind_of, payload_of};
+use base::{Kind, Misfit, Refusal, Word};
 
 const COUNT_MASK: u32 = (1 << COUNT_BITS) - 1;
 
@@ -24,28 +25,21 @@ struct Counts {
 pub(crate) fn read_sheet(words: &[u32]) -> Result<SharingSheet, Refusal>
     ensures { SheetRead (sheet_of_words words.now) result }
 {
-    let Some(first) = words.first() else {
+    let Some((first, rest)) = words.split_first() else {
         return Err(Refusal::NoForm { place: 0 });
     };
-    let counts = match read_opening(*first) {
-        Ok(counts) => counts,
-        Err(misfit) => return Err(misfit.at(0)),
-    };
+    let counts = read_opening(*first).map_err(|misfit| misfit.at(0))?;
     let mut sheet = SharingSheet::bare(counts.heads);
-    for place in 1..counts.jobs + 1 {
-        let Some(word) = words.get(place) else {
-            return Err(Refusal::NoForm {
-                place: place as u32,
-            });
-        };
-        match read_job(*word, counts.heads) {
-            Ok(job) => sheet.add(job),
-            Err(misfit) => return Err(misfit.at(place as u32)),
+    for (index, word) in rest.iter().enumerate() {
+        let place = index as u32 + 1;
+        if index >= counts.jobs {
+            return Err(Refusal::NoForm { place });
         }
+        sheet.add(read_job(*word, counts.heads).map_err(|misfit| misfit.at(place))?);
     }
-    if words.len() > counts.jobs + 1 {
+    if rest.len() < counts.jobs {
         return Err(Refusal::NoForm {
-            place: counts.jobs as u32 + 1,
+            place: words.len() as u32,
         });
     }
     Ok(sheet)
@@ -54,10 +48,13 @@ pub(crate) fn read_sheet(words: &[u32]) -> Result<SharingSheet, Refusal>
 fn read_opening(word: u32) -> Result<Counts, Misfit>
     ensures { Fitted (opening_misfit (kind word) (payload word)) (counts_in (payload word)) result }
 {
-    let Kind::Opening = kind_of(word) else {
+    let Word {
+        kind: Kind::Opening,
+        payload,
+    } = Word::from(word)
+    else {
         return Err(Misfit::NoForm);
     };
-    let payload = payload_of(word);
     let counts = Counts {
         heads: (payload >> COUNT_BITS) & COUNT_MASK,
         jobs: (payload & COUNT_MASK) as usize,
@@ -76,10 +73,13 @@ fn read_job(word: u32, heads: u32) -> Result<Job, Misfit>
     requires { heads ≤ max_heads }
     ensures { Fitted (job_misfit heads (kind word) (payload word)) (job_in (payload word)) result }
 {
-    let Kind::Member = kind_of(word) else {
+    let Word {
+        kind: Kind::Member,
+        payload,
+    } = Word::from(word)
+    else {
         return Err(Misfit::NoForm);
     };
-    let payload = payload_of(word);
     if payload >> (INK_BITS + MAX_HEADS) > 0 {
         return Err(Misfit::NoForm);
     }

@@ -2,6 +2,7 @@
 mod asking;
 mod loading;
 mod pairs;
+mod subject;
 
 ghost use Rattle.std.specs.Prelude.{◌≡◌, ◌≤◌, length};
 ghost use Rattle.sharing.specs.Limits.{max_heads, max_jobs};
@@ -9,19 +10,14 @@ ghost use Rattle.sharing.specs.Limits.{max_heads, max_jobs};
 use crate::limits::MAX_JOBS;
 
 // Bit h of `heads` says that the job may go to head h, from 0 on.
-#[derive(Clone, Copy)]
+#[derive(Clone, Copy, PartialEq, Eq, Debug, Default)]
 pub struct Job {
     pub heads: u32,
     pub ink: u32,
 }
 
-impl Job {
-    // What stands where there is no job.
-    pub const NONE: Job = Job { heads: 0, ink: 0 };
-}
-
-// The first `count` jobs are those of the sheet.
-#[derive(Clone, Copy)]
+// The first `count` jobs are those of the sheet: a vector of fixed room would not be Copy, which sheets are.
+#[derive(Clone, Copy, PartialEq, Eq, Debug)]
 pub struct SharingSheet {
     heads: u32,
     count: usize,

@@ -1,4 +1,3 @@
-pub mod Reading
 pub mod Reporting
 pub mod Placed
 pub mod Lengths

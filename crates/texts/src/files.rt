@@ -12,13 +12,12 @@ pub fn words_of(heap: Global, bytes: &[u8]) -> Result<Vec<u32>, AllocError>
     ensures { IfOk result (λ words. words.items ≡ files.words_of bytes.now) }
 {
     let mut words = Vec::new(heap);
-    let mut at = 0;
-    while bytes.len() - at >= 4 {
-        let word = u32::from_le_bytes([bytes[at], bytes[at + 1], bytes[at + 2], bytes[at + 3]]);
-        words.push(word)?;
-        at += 4;
+    let mut rest = bytes;
+    while let Some((word, behind)) = rest.split_first_chunk::<4>() {
+        words.push(u32::from_le_bytes(*word))?;
+        rest = behind;
     }
-    if at < bytes.len() {
+    if !rest.is_empty() {
         words.push(BROKEN_WORD)?;
     }
     Ok(words)

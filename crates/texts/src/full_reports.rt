@@ -1,13 +1,14 @@
 // The report on a plan and a hold list.
-ghost use Rattle.std.specs.Prelude.{◌≡◌, ◌+◌, ◌≤◌, min, [], ◌∷◌, length};
+ghost use Rattle.std.specs.Prelude.{◌≡◌, ◌≤◌, min};
 ghost use Rattle.sets.specs.Limits.{max_atoms};
 ghost use Rattle.sets.specs.Sets.{has};
 ghost use Rattle.base.specs.Buffers.{WroteInRoom};
-ghost use Rattle.texts.specs.Texts.{headline, percent};
+ghost use Rattle.texts.specs.Texts.{headline};
 ghost use Rattle.texts.specs.Buffered as texts;
-ghost use Rattle.texts.specs.Writing.{Put};
+ghost use Rattle.texts.specs.Writing.{HasRoom, Wrote};
 
-use crate::writing::{put_labelled, put_number, put_text};
+use crate::marks::{percent, sign_of};
+use crate::writing::Writer;
 use base::Refusal;
 use sets::{AtomSet, MAX_ATOMS};
 
@@ -15,6 +16,7 @@ use sets::{AtomSet, MAX_ATOMS};
 pub const REPORT_ROOM: usize = 9239;
 
 // How many atoms are in a plan over the atoms 1 to `atoms`, of which a set holds the first 1,024, and a line for each of these.
+// It differs from `report_plan` in more than where it writes: it has a letter for each atom, ends at the 1,024th, and never allocates.
 pub fn write_report(
     out: &mut [u8],
     atoms: u32,
@@ -29,66 +31,60 @@ pub fn write_report(
             needed: REPORT_ROOM as u32,
         });
     }
+    let marks = Marks {
+        plan,
+        held,
+        unsettled,
+    };
     let most = atoms.min(MAX_ATOMS);
-    let mut at = put_headline(out, plan.count(), most);
-    for i in 0..most {
-        at = put_atom(out, at, i + 1, plan, held, unsettled);
+    let mut report = Writer::new(out);
+    write_headline(&mut report, plan.count(), most);
+    for atom in 1..=most {
+        marks.write_line(&mut report, atom);
     }
-    Ok(at)
+    Ok(report.written())
 }
 
-fn put_headline(out: &mut [u8], count: u32, atoms: u32) -> usize
-    requires { (count ≤ max_atoms) × (length (headline count atoms) ≤ length out.old) }
-    ensures { Put out.old 0 (headline count atoms) result out.new }
+fn write_headline(out: &mut Writer<'_>, count: u32, atoms: u32)
+    requires { HasRoom out.old (headline count atoms) }
+    ensures { Wrote out.old (headline count atoms) out.new }
 {
-    let mut at = put_labelled(out, 0, b"plan ", count);
-    at = put_labelled(out, at, b" of ", atoms);
-    at = put_labelled(out, at, b" ", percent(count, atoms));
-    put_text(out, at, b"%\n")
+    out.labelled("plan ", u64::from(count));
+    out.labelled(" of ", u64::from(atoms));
+    out.labelled(" ", percent(count, atoms));
+    out.text("%\n");
 }
 
-// Rounded down, and 0 of nothing.
-fn percent(count: u32, atoms: u32) -> u32
-    requires { count ≤ max_atoms }
-    ensures { result ≡ percent count atoms }
-{
-    if atoms == 0 {
-        return 0;
+// What a line says of an atom: whether it is in the plan, held, or not settled.
+#[derive(Drop)]
+struct Marks<'a> {
+    plan: &'a AtomSet,
+    held: &'a AtomSet,
+    unsettled: &'a AtomSet,
+}
+
+impl Marks<'_> {
+    fn write_line(&self, out: &mut Writer<'_>, atom: u32)
+        requires { HasRoom out.old (texts.report_line (has self.now.plan.now) (has self.now.held.now) (has self.now.unsettled.now) atom) }
+        ensures { Wrote out.old (texts.report_line (has self.now.plan.now) (has self.now.held.now) (has self.now.unsettled.now) atom) out.new }
+    {
+        out.number(u64::from(atom));
+        out.text(" ");
+        out.text(sign_of(self.plan.contains(atom)));
+        out.text(" ");
+        out.text(self.letter_of(atom));
+        out.text("\n");
     }
-    100 * count / atoms
-}
 
-fn put_atom(
-    out: &mut [u8],
-    at: usize,
-    atom: u32,
-    plan: &AtomSet,
-    held: &AtomSet,
-    unsettled: &AtomSet,
-) -> usize
-    requires { at + length (texts.report_line (has plan.now) (has held.now) (has unsettled.now) atom) ≤ length out.old }
-    ensures { Put out.old at (texts.report_line (has plan.now) (has held.now) (has unsettled.now) atom) result out.new }
-{
-    let sign = sign_of(plan.contains(atom));
-    let letter = letter_of(held.contains(atom), unsettled.contains(atom));
-    let next = put_number(out, at, atom);
-    put_text(out, next, &[b' ', sign, b' ', letter, b'\n'])
-}
-
-fn sign_of(planned: bool) -> u8
-    ensures { result ∷ [] ≡ texts.sign planned }
-{
-    if planned { b'+' } else { b'-' }
-}
-
-fn letter_of(held: bool, unsettled: bool) -> u8
-    ensures { result ∷ [] ≡ texts.letter held unsettled }
-{
-    if held {
-        b'a'
-    } else if unsettled {
-        b'h'
-    } else {
-        b'w'
+    fn letter_of(&self, atom: u32) -> &'static str
+        ensures { result.now ≡ texts.letter (has self.now.held.now atom) (has self.now.unsettled.now atom) }
+    {
+        if self.held.contains(atom) {
+            "a"
+        } else if self.unsettled.contains(atom) {
+            "h"
+        } else {
+            "w"
+        }
     }
 }

@@ -3,6 +3,7 @@
 
 mod files;
 mod full_reports;
+mod marks;
 mod refusals;
 mod reports;
 mod writing;

@@ -1,41 +1,66 @@
-// Texts and numbers, put into a buffer from a place on; each call answers the place behind what it put.
-ghost use Rattle.std.specs.Prelude.{◌+◌, ◌<◌, ◌≤◌, [], ◌∷◌, ◌++◌, length, decimal};
-ghost use Rattle.texts.specs.Writing.{Put};
+// Texts and numbers, written one behind the other into a buffer that the caller lent.
+ghost use Rattle.std.specs.Prelude.{◌≡◌, ◌<◌, [], ◌∷◌, ◌+◌, ◌++◌, decimal};
+ghost use Rattle.texts.specs.Writing.{HasRoom, Wrote};
 
-pub(crate) fn put_text(out: &mut [u8], at: usize, text: &[u8]) -> usize
-    requires { at + length text.now ≤ length out.old }
-    ensures { Put out.old at text.now result out.new }
-{
-    let next = at + text.len();
-    out[at..next].copy_from_slice(text);
-    next
+// No `fmt::Write`: its contract says nothing of success, and nothing here fails within its room.
+#[derive(Drop)]
+pub(crate) struct Writer<'a> {
+    out: &'a mut [u8],
+    // How many bytes are written.
+    at: usize,
 }
 
-// A number behind its label.
-pub(crate) fn put_labelled(out: &mut [u8], at: usize, label: &[u8], value: u32) -> usize
-    requires { at + (length label.now + length (decimal value)) ≤ length out.old }
-    ensures { Put out.old at (label.now ++ decimal value) result out.new }
-{
-    let next = put_text(out, at, label);
-    put_number(out, next, value)
-}
-
-// The decimal digits of a number: its last digit stands behind those of its tenth.
-pub(crate) fn put_number(out: &mut [u8], at: usize, value: u32) -> usize
-    requires { at + length (decimal value) ≤ length out.old }
-    ensures { Put out.old at (decimal value) result out.new }
-{
-    if value < 10 {
-        return put_digit(out, at, value);
+impl<'a> Writer<'a> {
+    pub(crate) fn new(out: &'a mut [u8]) -> Writer<'a>
+        ensures same { result.out.ghost_name ≡ out.entry.ghost_name }
+        ensures out { result.out.now ≡ out.old }
+        ensures at { result.at ≡ 0 }
+    {
+        Writer { out, at: 0 }
     }
-    let last = put_number(out, at, value / 10);
-    put_digit(out, last, value % 10)
-}
 
-fn put_digit(out: &mut [u8], at: usize, digit: u32) -> usize
-    requires { (digit < 10) × (at < length out.old) }
-    ensures { Put out.old at ((48 + digit) ∷ []) result out.new }
-{
-    out[at] = b'0' + digit as u8;
-    at + 1
+    pub(crate) fn written(&self) -> usize
+        ensures { result ≡ self.now.at }
+    {
+        self.at
+    }
+
+    pub(crate) fn text(&mut self, text: &str)
+        requires { HasRoom self.old text.now }
+        ensures { Wrote self.old text.now self.new }
+    {
+        let next = self.at + text.len();
+        self.out[self.at..next].copy_from_slice(text.as_bytes());
+        self.at = next;
+    }
+
+    // A number behind its label.
+    pub(crate) fn labelled(&mut self, label: &str, value: u64)
+        requires { HasRoom self.old (label.now ++ decimal value) }
+        ensures { Wrote self.old (label.now ++ decimal value) self.new }
+    {
+        self.text(label);
+        self.number(value);
+    }
+
+    // The decimal digits of a number: its last digit stands behind those of its tenth.
+    pub(crate) fn number(&mut self, value: u64)
+        requires { HasRoom self.old (decimal value) }
+        ensures { Wrote self.old (decimal value) self.new }
+    {
+        if value < 10 {
+            return self.digit(value as u8);
+        }
+        self.number(value / 10);
+        self.digit((value % 10) as u8);
+    }
+
+    fn digit(&mut self, digit: u8)
+        requires few { digit < 10 }
+        requires room { HasRoom self.old ((48 + digit) ∷ []) }
+        ensures { Wrote self.old ((48 + digit) ∷ []) self.new }
+    {
+        self.out[self.at] = b'0' + digit;
+        self.at += 1;
+    }
 }

@@ -3,36 +3,51 @@ use std::alloc::{AllocError, Global};
 
 #[derive(Drop)]
 pub enum Line {
-    // Empty, or a comment.
-    Nothing,
     Book(Vec<u32>),
+    Sharing(Vec<u32>),
     Plan(Vec<u32>),
-    Status(u32),
-    Unknown,
+    Hold(Vec<u32>),
+    Propose { room: u32 },
+    Settled { room: u32 },
+    Report { room: u32 },
+    Status { atom: u32 },
 }
 
-pub(crate) fn read_line(heap: Global, text: &str) -> Result<Line, AllocError> {
-    let text = text.trim();
-    if text.is_empty() || text.starts_with('#') {
-        return Ok(Line::Nothing);
-    }
+// Empty, or a comment.
+pub(crate) fn is_passed_over(text: &str) -> bool {
+    text.is_empty() || text.starts_with('#')
+}
+
+// A name with words or with a number, if it is one of these.
+pub(crate) fn read_line(heap: Global, text: &str) -> Result<Option<Line>, AllocError> {
     let (name, rest) = text.split_once(' ').unwrap_or((text, ""));
-    if name == "status" {
-        return Ok(match read_number(rest.trim()) {
-            Some(atom) => Line::Status(atom),
-            None => Line::Unknown,
-        });
+    match name {
+        "book" | "sharing" | "plan" | "hold" => read_list(heap, name, rest),
+        _ => Ok(read_question(name, rest.trim())),
     }
+}
+
+fn read_list(heap: Global, name: &str, rest: &str) -> Result<Option<Line>, AllocError> {
     let Some(words) = read_words(heap, rest)? else {
-        return Ok(Line::Unknown);
+        return Ok(None);
     };
-    Ok(if name == "book" {
-        Line::Book(words)
-    } else if name == "plan" {
-        Line::Plan(words)
-    } else {
-        Line::Unknown
-    })
+    Ok(Some(match name {
+        "book" => Line::Book(words),
+        "sharing" => Line::Sharing(words),
+        "plan" => Line::Plan(words),
+        _ => Line::Hold(words),
+    }))
+}
+
+fn read_question(name: &str, rest: &str) -> Option<Line> {
+    let number = read_number(rest)?;
+    match name {
+        "propose" => Some(Line::Propose { room: number }),
+        "settled" => Some(Line::Settled { room: number }),
+        "report" => Some(Line::Report { room: number }),
+        "status" => Some(Line::Status { atom: number }),
+        _ => None,
+    }
 }
 
 // Words between spaces, if all are words.
@@ -60,5 +75,5 @@ fn read_number(text: &str) -> Option<u32> {
     if text.starts_with('+') {
         return None;
     }
-    text.parse::<u32>().ok()
+    text.parse().ok()
 }

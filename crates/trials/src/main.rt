@@ -1,22 +1,36 @@
-// Reads books, plans and questions, one to a line, and prints an answer to each.
+// Reads rules, plans, hold lists and questions, one to a line, and prints an answer to each.
 #![tactic(auto)]
 
-mod answer;
 mod line;
+mod reply;
 mod trial;
 
-use line::read_line;
-use std::io;
+use base::LoadError;
+use line::{is_passed_over, read_line};
 use trial::Trial;
 
-fn main(rt: HostRuntime) -> io::Result<()> {
+fn main(rt: HostRuntime) -> anyhow::Result<()> {
     let heap = rt.alloc();
     let mut trial = Trial::new(heap)?;
     for text in rt.lines(heap) {
-        let line = read_line(heap, text?.as_str())?;
-        if let Some(answer) = trial.answer(heap, &line)? {
-            println!(rt; "{answer}")?;
+        let text = text?;
+        let text = text.as_str().trim();
+        if !is_passed_over(text) {
+            answer(&rt, &mut trial, text)?;
         }
+    }
+    Ok(())
+}
+
+fn answer(rt: &HostRuntime, trial: &mut Trial, text: &str) -> anyhow::Result<()> {
+    let Some(line) = read_line(rt.alloc(), text)? else {
+        rt.println("not a line")?;
+        return Ok(());
+    };
+    match trial.answer(rt.alloc(), line) {
+        Ok(reply) => print!(rt; "{reply}")?,
+        Err(LoadError::Refused(refusal)) => println!(rt; "{refusal}")?,
+        Err(e) => return Err(e.into()),
     }
     Ok(())
 }

@@ -5,8 +5,8 @@ use std::alloc::{AllocError, Global};
 
 pub(crate) fn encode<S: RuleSource>(heap: Global, source: &S) -> Result<Vec<u32>, AllocError> {
     let mut words = vec![in heap; opening(source.atom_count())]?;
-    for i in 0..source.rule_count() {
-        encode_rule(source, i.wrapping_add(1), &mut words)?;
+    for rule in 1..=source.rule_count() {
+        encode_rule(source, rule, &mut words)?;
     }
     Ok(words)
 }
@@ -17,8 +17,8 @@ fn encode_rule<S: RuleSource>(
     words: &mut Vec<u32>,
 ) -> Result<(), AllocError> {
     words.push(source.head(rule))?;
-    for k in 0..source.body_len(rule) {
-        words.push(literal_word(source.literal(rule, k.wrapping_add(1))))?;
+    for literal in source.body(rule) {
+        words.push(literal_word(literal))?;
     }
     Ok(())
 }

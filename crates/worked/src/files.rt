@@ -1,4 +1,5 @@
 // Books and plans as the bytes of files.
+use crate::fixtures::printed;
 use console::judge_files;
 use std::alloc::Global;
 use std::process::Abort;
@@ -18,9 +19,9 @@ fn tells(
     passed: bool,
     text: &str,
 ) -> Result<(), Fail> {
-    let outcome = judge_files(heap, book, plan)?;
-    assert_eq!(rt; outcome.passed, passed);
-    assert_eq!(rt; outcome.text.as_str(), text);
+    let told = judge_files(heap, book, plan);
+    assert_eq!(rt; told.is_ok(), passed);
+    assert_eq!(rt; printed(heap, told)?.as_str(), text);
     Ok(())
 }
 

@@ -7,6 +7,7 @@ use sets::AtomSet;
 use sharing::SharingSheet;
 use std::alloc::{AllocError, Global};
 use std::test::Fail;
+use texts::refusal_line;
 
 pub(crate) fn opening(atoms: u32) -> u32 {
     0xE000_0000 | atoms
@@ -50,16 +51,35 @@ pub(crate) fn book_of(heap: Global, words: &[u32]) -> Result<Book, LoadError> {
 
 pub(crate) fn case_of(heap: Global, words: &[u32]) -> Result<Case, LoadError> {
     let book = book_of(heap, words)?;
-    match Case::new(heap, &book) {
-        Ok(case) => Ok(case),
-        Err(_) => Err(LoadError::OutOfMemory),
-    }
+    Ok(Case::new(heap, &book)?)
 }
 
 pub(crate) fn sheet_of(words: &[u32]) -> Result<SharingSheet, Fail> {
     let mut sheet = SharingSheet::new();
     sheet.load(words)?;
     Ok(sheet)
+}
+
+// The worked book, over which the plan 1, 3 stands.
+pub(crate) fn planned(heap: Global) -> Result<Case, Fail> {
+    let mut case = case_of(heap, &WORKED)?;
+    case.offer(&[member(1), member(3)])?;
+    Ok(case)
+}
+
+// The same with the hold list 2.
+pub(crate) fn held(heap: Global) -> Result<Case, Fail> {
+    let mut case = planned(heap)?;
+    case.hold(&[member(2)])?;
+    Ok(case)
+}
+
+// What the program prints: a text, or the refusal that stands in its place.
+pub(crate) fn printed(heap: Global, told: Result<String, LoadError>) -> Result<String, LoadError> {
+    match told {
+        Err(LoadError::Refused(refusal)) => Ok(refusal_line(heap, &refusal)?),
+        told => told,
+    }
 }
 
 // The set of the atoms on a list.
@@ -74,9 +94,9 @@ pub(crate) fn set_of(atoms: &[u32]) -> AtomSet {
 // The atoms of a set of bits, an atom's bit being its number less 1, as the words of a plan.
 pub(crate) fn plan_of(heap: Global, bits: u32) -> Result<Vec<u32>, AllocError> {
     let mut words = Vec::new(heap);
-    for i in 0..6 {
-        if (bits >> i) & 1 == 1 {
-            words.push(member(i + 1))?;
+    for atom in 1..=6 {
+        if (bits >> (atom - 1)) & 1 == 1 {
+            words.push(member(atom))?;
         }
     }
     Ok(words)

@@ -1,4 +1,4 @@
-// Worked examples of books, sheets and what is made of them, as tests.
+// Worked examples of books, sheets, plans, hold lists, reports, runs and files, as tests.
 #![tactic(auto)]
 
 #[cfg(test)]
@@ -8,15 +8,25 @@ mod atoms;
 #[cfg(test)]
 mod encoding;
 #[cfg(test)]
+mod file_commands;
+#[cfg(test)]
 mod files;
 #[cfg(test)]
 mod fixtures;
+#[cfg(test)]
+mod hold_files;
+#[cfg(test)]
+mod holds;
 #[cfg(test)]
 mod limits;
 #[cfg(test)]
 mod piles;
 #[cfg(test)]
 mod refusals;
+#[cfg(test)]
+mod reports;
+#[cfg(test)]
+mod run_answers;
 #[cfg(test)]
 mod settled;
 #[cfg(test)]

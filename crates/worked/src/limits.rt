@@ -22,8 +22,8 @@ fn facts(heap: Global, rules: u32) -> Result<Vec<u32>, AllocError> {
 // One rule with positive atoms from 1 on.
 fn long_body(heap: Global, atoms: u32) -> Result<Vec<u32>, AllocError> {
     let mut words = vec![in heap; opening(1024), 1]?;
-    for i in 0..atoms {
-        words.push(positive(i.wrapping_add(1)))?;
+    for atom in 1..=atoms {
+        words.push(positive(atom))?;
     }
     Ok(words)
 }

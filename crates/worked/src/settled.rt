@@ -38,8 +38,8 @@ fn chain(heap: Global, atoms: u32) -> Result<Vec<u32>, AllocError> {
 // The odd atoms up to 1,024 as a plan.
 fn odd_plan(heap: Global) -> Result<Vec<u32>, AllocError> {
     let mut words = Vec::new(heap);
-    for i in 0..512u32 {
-        words.push(member(2 * i + 1))?;
+    for pair in 1..=512u32 {
+        words.push(member(2 * pair - 1))?;
     }
     Ok(words)
 }
@@ -47,9 +47,9 @@ fn odd_plan(heap: Global) -> Result<Vec<u32>, AllocError> {
 // The odd atoms up to 1,024 settled true, and the others false.
 fn odd_true(heap: Global) -> Result<Vec<u32>, AllocError> {
     let mut words = Vec::new(heap);
-    for i in 0..512u32 {
-        words.push(settled_true(2 * i + 1))?;
-        words.push(settled_false(2 * i + 2))?;
+    for pair in 1..=512u32 {
+        words.push(settled_true(2 * pair - 1))?;
+        words.push(settled_false(2 * pair))?;
     }
     Ok(words)
 }

@@ -40,10 +40,8 @@ fn crowd(heap: Global, jobs: u32) -> Result<Vec<u32>, AllocError> {
 // Rules plus body atoms.
 fn size_of<S: RuleSource>(source: &S) -> usize {
     let mut size: usize = 0;
-    for i in 0..source.rule_count() {
-        size = size
-            .wrapping_add(1)
-            .wrapping_add(source.body_len(i.wrapping_add(1)));
+    for rule in 1..=source.rule_count() {
+        size = size.wrapping_add(1).wrapping_add(source.body_len(rule));
     }
     size
 }

@@ -1,8 +1,7 @@
 // A program with six atoms, a = 1 to f = 6, and all 64 sets of them.
-use crate::fixtures::{book_of, case_of, member};
+use crate::fixtures::{book_of, passed_plans};
 use models::derive;
 use sets::AtomSet;
-use std::alloc::{AllocError, Global};
 use std::test::Fail;
 
 // a :- f, not b.  b :- e, not a.  e.  f :- e.  d :- c, e.  c :- d, f.
@@ -28,23 +27,12 @@ const SIX: [u32; 16] = [
 // {a, e, f} and {b, e, f}, an atom's bit being its number less 1.
 const ANSWER_SETS: [u32; 2] = [0b11_0001, 0b11_0010];
 
-// The words of the set with these bits.
-fn plan_of(heap: Global, bits: u32) -> Result<Vec<u32>, AllocError> {
-    let mut words = Vec::new(heap);
-    for i in 0..6 {
-        if (bits >> i) & 1 == 1 {
-            words.push(member(i + 1))?;
-        }
-    }
-    Ok(words)
-}
-
 // The set with these bits.
 fn set_of(bits: u32) -> AtomSet {
     let mut set = AtomSet::new();
-    for i in 0..6 {
-        if (bits >> i) & 1 == 1 {
-            let _ = set.insert(i + 1);
+    for atom in 1..=6 {
+        if (bits >> (atom - 1)) & 1 == 1 {
+            let _ = set.insert(atom);
         }
     }
     set
@@ -53,9 +41,9 @@ fn set_of(bits: u32) -> AtomSet {
 // The bits of a set.
 fn bits_of(set: &AtomSet) -> u32 {
     let mut bits = 0;
-    for i in 0..6 {
-        if set.contains(i + 1) {
-            bits |= 1 << i;
+    for atom in 1..=6 {
+        if set.contains(atom) {
+            bits |= 1 << (atom - 1);
         }
     }
     bits
@@ -63,14 +51,8 @@ fn bits_of(set: &AtomSet) -> u32 {
 
 #[test]
 fn exactly_the_answer_sets_are_passed(rt: HostRuntime) -> Result<(), Fail> {
-    let mut case = case_of(rt.alloc(), &SIX)?;
-    let mut passed = Vec::new(rt.alloc());
-    for bits in 0..64 {
-        let words = plan_of(rt.alloc(), bits)?;
-        if case.offer(words.as_slice()).is_ok() {
-            passed.push(bits)?;
-        }
-    }
+    let book = book_of(rt.alloc(), &SIX)?;
+    let passed = passed_plans(rt.alloc(), &book, 64)?;
     assert_eq!(rt; passed.as_slice(), ANSWER_SETS.as_slice());
     Ok(())
 }

@@ -1,5 +1,5 @@
 // Words, put together from a kind and a number.
-use base::{Kind, word_of};
+use base::{Kind, Word};
 
 const WORDS: [(Kind, u32, u32); 11] = [
     (Kind::Head, 1, 0x0000_0001),
@@ -18,6 +18,21 @@ const WORDS: [(Kind, u32, u32); 11] = [
 #[test]
 fn a_word_has_its_kind_and_the_low_29_bits_of_its_number(rt: HostRuntime) {
     for (kind, number, word) in WORDS {
-        assert_eq!(rt; word_of(kind, number), word);
+        let made = Word {
+            kind,
+            payload: number,
+        };
+        assert_eq!(rt; u32::from(made), word);
+    }
+}
+
+#[test]
+fn a_word_is_taken_apart(rt: HostRuntime) {
+    for (kind, number, word) in WORDS {
+        let taken = Word {
+            kind,
+            payload: number & 0x1FFF_FFFF,
+        };
+        assert_eq!(rt; Word::from(word), taken);
     }
 }

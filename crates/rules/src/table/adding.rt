@@ -1,15 +1,16 @@
 // Tables grow by a rule or a literal at a time, and never past what a rule source may be.
 ghost use Rattle.std.specs.Prelude.{◌≡◌, ◌+◌, ◌^◌, ◌<◌, ◌≤◌, [], length, None, MatchResult};
 ghost use Rattle.sets.specs.Limits.{max_atoms};
+ghost use Rattle.std.specs.Result.{result_err};
 ghost use Rattle.base.specs.declared.misfit.Misfit.TheVariants.{PastLimit};
 ghost use Rattle.rules.specs.Program.{weight};
-ghost use Rattle.rules.specs.Growing.{with_rule, with_literal, rule_misfit, literal_misfit, last_rule, last_of, before, Added};
+ghost use Rattle.rules.specs.Growing.{with_rule, with_literal, rule_misfit, literal_misfit, last_rule, before, Added};
 ghost use Rattle.rules.specs.Laws.{RuleAddedExactlyIfWithin, LiteralAddedExactlyIfWithin};
-ghost use Rattle.rules.specs.Laid.{between, entry_rule, longer_entry, Ordered};
+ghost use Rattle.rules.specs.Laid.{entry_rule, longer_entry, Ordered};
 ghost use Rattle.rules.specs.Tables.{program};
 
-use super::{Entry, Rejection, RuleTable};
-use crate::{Literal, MAX_BODY, MAX_RULES, MAX_SIZE};
+use super::{Entry, RuleTable};
+use crate::{Literal, MAX_BODY, MAX_RULES, MAX_SIZE, Rejection};
 use base::Misfit;
 use sets::MAX_ATOMS;
 use std::alloc::{AllocError, Global};
@@ -44,31 +45,25 @@ impl RuleTable {
     }
 
     // Adds a rule with an empty body behind the others.
+    #[tactic(auto, using(crate::proofs::Exactly::rule_exactly))]
     pub fn add_rule(&mut self, head: u32) -> Result<(), Rejection>
         ensures answer { Added (rule_misfit (program self.old) head) (program self.old) (with_rule (program self.old) head) result (program self.new) }
         ensures law { RuleAddedExactlyIfWithin }
     {
-        if let Some(misfit) = self.rule_misfit(head) {
-            return Err(Rejection::Unfit(misfit));
-        }
-        match self.push_rule(head) {
-            Ok(()) => Ok(()),
-            Err(_) => Err(Rejection::OutOfMemory),
-        }
+        self.fits_rule(head)?;
+        self.push_rule(head)?;
+        Ok(())
     }
 
     // Adds a literal at the end of the last rule's body.
+    #[tactic(auto, using(crate::proofs::Exactly::literal_exactly))]
     pub fn add_literal(&mut self, literal: Literal) -> Result<(), Rejection>
         ensures answer { Added (literal_misfit (program self.old) literal) (program self.old) (with_literal (program self.old) literal) result (program self.new) }
         ensures law { LiteralAddedExactlyIfWithin }
     {
-        if let Some(misfit) = self.literal_misfit(literal) {
-            return Err(Rejection::Unfit(misfit));
-        }
-        match self.push_literal(literal) {
-            Ok(()) => Ok(()),
-            Err(_) => Err(Rejection::OutOfMemory),
-        }
+        self.fits_literal(literal)?;
+        self.push_literal(literal)?;
+        Ok(())
     }
 
     // Rules plus body atoms.
@@ -78,38 +73,38 @@ impl RuleTable {
         self.entries.len() + self.body.len()
     }
 
-    fn rule_misfit(&self, head: u32) -> Option<Misfit>
-        ensures { result ≡ rule_misfit (program self.now) head }
+    fn fits_rule(&self, head: u32) -> Result<(), Misfit>
+        ensures { result_err result ≡ rule_misfit (program self.now) head }
     {
         if self.entries.len() >= MAX_RULES || self.size() >= MAX_SIZE {
-            return Some(Misfit::PastLimit);
+            return Err(Misfit::PastLimit);
         }
         if head == 0 || head > self.atoms {
-            return Some(Misfit::OutOfRange);
+            return Err(Misfit::OutOfRange);
         }
-        None
+        Ok(())
     }
 
-    fn literal_misfit(&self, literal: Literal) -> Option<Misfit>
-        ensures { result ≡ literal_misfit (program self.now) literal }
+    fn fits_literal(&self, literal: Literal) -> Result<(), Misfit>
+        ensures { result_err result ≡ literal_misfit (program self.now) literal }
     {
         let last = self.last_entry();
         if last.end - last.start >= MAX_BODY || self.size() >= MAX_SIZE {
-            return Some(Misfit::PastLimit);
+            return Err(Misfit::PastLimit);
         }
-        if self.entries.len() == 0 {
-            return Some(Misfit::NoForm);
+        if self.entries.is_empty() {
+            return Err(Misfit::NoForm);
         }
         if literal.positive && last.split < last.end {
-            return Some(Misfit::NoForm);
+            return Err(Misfit::NoForm);
         }
         if literal.atom == 0 || literal.atom > self.atoms {
-            return Some(Misfit::OutOfRange);
+            return Err(Misfit::OutOfRange);
         }
         if literal.atom <= self.last_before(literal) {
-            return Some(Misfit::NotRising);
+            return Err(Misfit::NotRising);
         }
-        None
+        Ok(())
     }
 
     fn last_entry(&self) -> Entry
@@ -124,21 +119,12 @@ impl RuleTable {
         ensures { result ≡ before (last_rule (program self.now)) literal }
     {
         let last = self.last_entry();
-        if literal.positive {
-            return self.last_between(last.start, last.split);
-        }
-        self.last_between(last.split, last.end)
-    }
-
-    // The last body atom from one place up to another, or 0.
-    fn last_between(&self, from: usize, to: usize) -> u32
-        requires { (from ≤ to) × (to ≤ length self.now.body.items) }
-        ensures { result ≡ last_of (between from to self.now.body.items) }
-    {
-        if from == to {
-            return 0;
-        }
-        self.body[to - 1]
+        let run = if literal.positive {
+            &self.body[last.start..last.split]
+        } else {
+            &self.body[last.split..last.end]
+        };
+        run.last().copied().unwrap_or(0)
     }
 
     pub(super) fn push_rule(&mut self, head: u32) -> Result<(), AllocError>
@@ -146,16 +132,13 @@ impl RuleTable {
         ensures { MatchResult result (λ _. program self.new ≡ with_rule (program self.old) head) (λ _. program self.new ≡ program self.old) }
     {
         let at = self.body.len();
-        let entry = Entry {
+        self.entries.push(Entry {
             head,
             start: at,
             split: at,
             end: at,
-        };
-        match self.entries.push(entry) {
-            Ok(()) => Ok(()),
-            Err(_) => Err(AllocError),
-        }
+        })?;
+        Ok(())
     }
 
     pub(super) fn push_literal(&mut self, literal: Literal) -> Result<(), AllocError>
@@ -164,13 +147,9 @@ impl RuleTable {
     {
         let last = self.entries.len() - 1;
         let entry = self.entries[last].longer(literal.positive);
-        match self.body.push(literal.atom) {
-            Ok(()) => {
-                self.entries[last] = entry;
-                Ok(())
-            }
-            Err(_) => Err(AllocError),
-        }
+        self.body.push(literal.atom)?;
+        self.entries[last] = entry;
+        Ok(())
     }
 }
 
@@ -180,19 +159,10 @@ impl Entry {
         requires { (self.split ≤ self.end) × (self.end + 1 < 2 ^ 64) }
         ensures { result ≡ longer_entry self positive }
     {
-        if positive {
-            return Entry {
-                head: self.head,
-                start: self.start,
-                split: self.split + 1,
-                end: self.end + 1,
-            };
-        }
         Entry {
-            head: self.head,
-            start: self.start,
-            split: self.split,
+            split: self.split + usize::from(positive),
             end: self.end + 1,
+            ..self
         }
     }
 }

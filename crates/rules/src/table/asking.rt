@@ -13,15 +13,10 @@ impl RuleTable {
         ensures lies { entry_rule self.now.body.items result ≡ rule_at (program self.now) rule }
         ensures ordered { Ordered (length self.now.body.items) result }
     {
-        if rule == 0 || rule > self.entries.len() {
-            return Entry {
-                head: 0,
-                start: 0,
-                split: 0,
-                end: 0,
-            };
+        if rule == 0 {
+            return Entry::default();
         }
-        self.entries[rule - 1]
+        self.entries.get(rule - 1).copied().unwrap_or_default()
     }
 }
 

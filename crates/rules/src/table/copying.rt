@@ -1,5 +1,5 @@
 // A table as an owned copy of any rule source.
-ghost use Rattle.std.specs.Prelude.{◌≡◌, ◌+◌, ◌<◌, length, IfOk, OnOk};
+ghost use Rattle.std.specs.Prelude.{◌≡◌, ◌-◌, ◌<◌, ◌≤◌, length, IfOk, OnOk};
 ghost use Rattle.rules.specs.Growing.{first_rules};
 ghost use Rattle.rules.specs.Tables.{program};
 
@@ -13,21 +13,20 @@ impl RuleTable {
         ensures { IfOk result (λ t. program t ≡ S.RuleSource.meaning source.now) }
     {
         let mut table = RuleTable::bare(heap, source.atom_count());
-        for i in 0..source.rule_count() {
-            table.copy_rule(source, i)?;
+        for rule in 1..=source.rule_count() {
+            table.copy_rule(source, rule)?;
         }
         Ok(table)
     }
 
-    // Adds the rule of a source that comes behind its first `count` rules, which are here already.
-    fn copy_rule<S: RuleSource>(&mut self, source: &S, count: usize) -> Result<(), AllocError>
-        requires { (program self.old ≡ first_rules (S.RuleSource.meaning source.now) count) × (count < length (S.RuleSource.meaning source.now).rules) }
-        ensures { OnOk result (program self.new ≡ first_rules (S.RuleSource.meaning source.now) (count + 1)) }
+    // Adds a rule of a source, whose rules before that one are here already.
+    fn copy_rule<S: RuleSource>(&mut self, source: &S, rule: usize) -> Result<(), AllocError>
+        requires { (program self.old ≡ first_rules (S.RuleSource.meaning source.now) (rule - 1)) × (0 < rule) × (rule ≤ length (S.RuleSource.meaning source.now).rules) }
+        ensures { OnOk result (program self.new ≡ first_rules (S.RuleSource.meaning source.now) rule) }
     {
-        let rule = count + 1;
         self.push_rule(source.head(rule))?;
-        for k in 0..source.body_len(rule) {
-            self.push_literal(source.literal(rule, k + 1))?;
+        for literal in source.body(rule) {
+            self.push_literal(literal)?;
         }
         Ok(())
     }

@@ -23,8 +23,7 @@ impl SharingSheet {
         ensures answer { SheetLoaded (sheet_of_words words.now) self.old result self.new }
         ensures law { TakenExactlyIfEncoded × RefusedWhereNoSheetGoesOn }
     {
-        let sheet = read_sheet(words)?;
-        *self = sheet;
+        *self = read_sheet(words)?;
         Ok(())
     }
 
@@ -36,7 +35,7 @@ impl SharingSheet {
         SharingSheet {
             heads,
             count: 0,
-            jobs: [Job::NONE; MAX_JOBS],
+            jobs: [Job::default(); MAX_JOBS],
         }
     }
 

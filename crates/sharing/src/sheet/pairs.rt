@@ -1,16 +1,26 @@
 // The pairs of a job and a head: which are allowed, and which exclude each other.
-ghost use Rattle.std.specs.Prelude.{◌≡◌, ◌*◌, ◌≤◌, length};
+ghost use Rattle.std.specs.Prelude.{◌≡◌, ◌+◌, ◌*◌, ◌≤◌, length, slice_get};
+ghost use Rattle.sets.specs.Sets.{rising};
 ghost use Rattle.sharing.specs.Limits.{max_heads, max_jobs};
 ghost use Rattle.sharing.specs.Sheets.{sheet_of, job_at, pair_count, job_of, head_of, allowed, excludes, serves};
 
 use super::{Job, SharingSheet};
+use std::ops::Range;
 
 impl SharingSheet {
+    // The jobs of the sheet.
+    fn jobs(&self) -> &[Job]
+        ensures { result.now ≡ (sheet_of self.now).jobs }
+    {
+        &self.jobs[..self.count]
+    }
+
+    // `few`, here and below, saves each caller to know the limits of a sheet.
     pub(super) fn job_count(&self) -> usize
         ensures value { result ≡ length (sheet_of self.now).jobs }
         ensures few { result ≤ max_jobs }
     {
-        self.count
+        self.jobs().len()
     }
 
     // The atoms from 1 to this number are pairs, job by job and head by head.
@@ -21,14 +31,18 @@ impl SharingSheet {
         self.job_count() as u32 * self.heads
     }
 
+    // The pairs, rising; half-open, since the library has no law for chains over an inclusive range.
+    pub(super) fn pairs(&self) -> Range<u32>
+        ensures { result ≡ record { start = 1; end = pair_count (sheet_of self.now) + 1 } }
+    {
+        1..self.pair_count() + 1
+    }
+
     // A job, counted from 0; past the last there is none.
     fn job(&self, place: usize) -> Job
         ensures { result ≡ job_at (sheet_of self.now) place }
     {
-        if place >= self.count {
-            return Job::NONE;
-        }
-        self.jobs[place]
+        self.jobs().get(place).copied().unwrap_or_default()
     }
 
     // The job of a pair.
@@ -46,6 +60,7 @@ impl SharingSheet {
     }
 
     // Whether the job of a pair may go to its head.
+    #[tactic(auto, unfolding(crate::specs::Sheets::allowed))]
     pub(super) fn allows(&self, pair: u32) -> bool
         ensures { result ≡ allowed (sheet_of self.now) pair }
     {
@@ -53,6 +68,7 @@ impl SharingSheet {
     }
 
     // Whether an allowed pair excludes another: the same job on another head, or a job of another ink on the same head.
+    #[tactic(auto, unfolding(crate::specs::Sheets::excludes))]
     pub(super) fn excludes(&self, pair: u32, other: u32) -> bool
         ensures { result ≡ excludes (sheet_of self.now) pair other }
     {
@@ -68,9 +84,24 @@ impl SharingSheet {
     }
 
     // Whether a pair is an allowed one of a job.
+    #[tactic(auto, unfolding(crate::specs::Sheets::serves))]
     pub(super) fn serves(&self, job: usize, pair: u32) -> bool
         ensures { result ≡ serves (sheet_of self.now) job pair }
     {
         self.allows(pair) && self.job_of(pair) == job
+    }
+
+    // The allowed pair at a place, counted from 0.
+    pub(super) fn allowed_pair(&self, place: usize) -> Option<u32>
+        ensures { result ≡ slice_get (rising (allowed (sheet_of self.now)) (pair_count (sheet_of self.now))) place }
+    {
+        self.pairs().filter(|pair| self.allows(*pair)).nth(place)
+    }
+
+    // How many pairs are allowed.
+    pub(super) fn allowed_count(&self) -> usize
+        ensures { result ≡ length (rising (allowed (sheet_of self.now)) (pair_count (sheet_of self.now))) }
+    {
+        self.pairs().filter(|pair| self.allows(*pair)).count()
     }
 }

@@ -1,25 +1,16 @@
 -- Each rule adds its negative atoms, and all rules are passed.
-use Rattle.std.proofs.Common.{◌≡◌, length, arith}
-use Rattle.std.proofs.lemmas.Bool.{both_ways}
+use Rattle.std.proofs.Common.{◌+◌, arith}
 use Rattle.sets.specs.Sets.{has}
-use Rattle.settling.proofs.Negatives.{first_none, first_all, first_more}
+use Rattle.settling.proofs.Negatives.{first_all, first_more}
 use Rattle.settling.proofs.PreAssumptions.{all_pre_assumptions}
 use Rattle.settling.proofs.assuming.assumable.Goals as goal
 
-pub loop-i-init : goal.loop-i-init
-loop-i-init g c a =
-    let P = g.S.RuleSource.meaning c.args.source.now in
-    ((λ t. absurd (both_ways (has c.new-found.result a) (c.new-found.ensures.none a) t)), λ o. absurd (first_none P a o.0))
+pub returns-clause-law : goal.returns-clause-law
+returns-clause-law g c = all_pre_assumptions
 
-pub loop-i-preserved : goal.loop-i-preserved
-loop-i-preserved g c =
-    first_more (g.S.RuleSource.meaning c.args.source.now) (has c.args.unsettled.now) c.loop-i.i (has c.loop-i.found) (has c.add_negative.new.found) c.loop-i.invariant c.add_negative.ensures
-
-pub returns : goal.returns
-returns g c =
+pub returns-2 : goal.returns-2
+returns-2 g c =
     let P = g.S.RuleSource.meaning c.args.source.now in
-    let done : c.loop-i.i ≡ length P.rules = omega (arith, c.rule_count-i-end.ensures) in
-    record {
-      answer = λ a. let all = first_all P c.loop-i.i a done in ((λ t. let o = (c.loop-i.invariant a).0 t in (all.0 o.0, o.1)), λ o. (c.loop-i.invariant a).1 (all.1 o.0, o.1));
-      law = all_pre_assumptions;
-    }
+    let C = has c.args.unsettled.now in
+    let more = first_more P C c.loop-rule.rule c.loop-rule.auto.rule (has c.loop-rule.found) (has c.add_negative.new.found) c.loop-rule.invariant c.add_negative.ensures in
+    record { answer = first_all P C (has c.add_negative.new.found) (c.loop-rule.rule + 1) (omega (arith, c.rule_count-rule-end.ensures)) more; law = all_pre_assumptions }

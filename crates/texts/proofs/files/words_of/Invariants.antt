@@ -1,9 +1,9 @@
-use Rattle.std.proofs.Common.{◌≡◌, ◌-◌, ◌≤◌, ◌++◌, length, drop, vec_items}
+use Rattle.std.proofs.Common.{◌≡◌, ◌++◌, length, vec_items}
 use Rattle.texts.specs.Files.{words_of}
 use Rattle.texts.proofs.files.words_of.Given as goal
 
-abbrev pub invariant-loop-at : goal.invariant-loop-at
-invariant-loop-at l = (l.at ≤ length l.bytes) × (vec_items l.words ++ words_of (drop l.at l.bytes) ≡ words_of l.bytes)
+abbrev pub invariant-loop-word : goal.invariant-loop-word
+invariant-loop-word l = vec_items l.words ++ words_of l.rest ≡ words_of l.bytes
 
-abbrev pub decreases-loop-at : goal.decreases-loop-at
-decreases-loop-at l = length l.bytes - l.at
+abbrev pub decreases-loop-word : goal.decreases-loop-word
+decreases-loop-word l = length l.rest

@@ -1,29 +1,16 @@
 -- A word at fault and a plan that is no answer set leave the case as it was, and any other plan stands.
-use Rattle.std.proofs.Common.{◌≡◌, ℕ, ◌↔◌, List, Ok, Err, Result, sym, refl, ap, ◌∙◌, subst}
+use Rattle.std.proofs.Common.{◌≡◌, ℕ, List, Ok, Err, Result, sym, refl, ap, ◌∙◌, subst}
 use Rattle.std.proofs.lemmas.Result.{err_from_is_err_and}
 use Rattle.std.proofs.lemmas.Bool.{false≢true}
 use Rattle.base.specs.declared.refusal.Refusal.{Refusal}
-use Rattle.rules.specs.Program.{Program}
 use Rattle.rules.specs.Tables.{program}
-use Rattle.lists.specs.Lists.{list_of_words}
 use Rattle.models.specs.Derives.{AnswerSet}
 use Rattle.models.specs.Judging.{Judged}
 use Rattle.case.specs.Cases.{plan_of, hold_of}
-use Rattle.case.specs.Calls.{Verdict, VerdictBy, Lists, IsPlan, after_offer, hold_after_offer}
+use Rattle.case.specs.Calls.{after_offer, hold_after_offer}
 use Rattle.case.specs.declared.case.Case.{Case}
 use Rattle.case.proofs.Judgements.{Judgement, words_refused, set_judged, set_stands}
 use Rattle.case.proofs.case.Case.offer.Goals as goal
-
--- the verdict on a plan is one on a set, and the words of a plan list a set
-verdict_on : (P : Program) (x : Result (List ℕ) Refusal) (r : Result (Unit {0}) Refusal) → VerdictBy (Judged P) x r → Verdict P x r
-verdict_on P (Ok atoms) r v = v
-verdict_on P (Err f) r v = v
-
-plan_law : (P : Program) (ws : List ℕ) (r : Result (Unit {0}) Refusal) → (r ≡ Ok tt) ↔ Lists P.atoms (AnswerSet P) ws → (r ≡ Ok tt) ↔ IsPlan P ws
-plan_law P ws r law = (
-  (λ e. let p = law.0 e in record { atoms = p.atoms; listed = p.listed; answers = p.holds }),
-  λ p. law.1 (record { atoms = p.atoms; listed = p.listed; holds = p.answers }),
-)
 
 -- a refusal that a `?` hands on, with what holds of it
 module _ (c : Case) (ws : List ℕ) where
@@ -40,7 +27,7 @@ returns-in_err-plan c =
     let p = err_from_is_err_and c.from_residual.result c.from_residual.ensures.1 in
     let j = words_refused s.rules c.atom_count.result c.atom_count.ensures c.read_list.ensures.law.0 ws (λ i. (c.type_inv.words i).fits) (Judged P) (AnswerSet P) c.in_err-plan.field-0.0 c.in_err-plan.ensures.answer in
     let o = subst (Refusing s ws) (sym (p.1 ∙ ap Err p.2)) (record { judgement = j; stands = refl; held = refl }) in
-    record { answer = verdict_on P (list_of_words P.atoms ws) _ o.judgement.answer; law = plan_law P ws _ o.judgement.law; stands = o.stands; held = o.held; same = refl; refused = λ _. refl }
+    record { answer = o.judgement.answer; law = o.judgement.law; stands = o.stands; held = o.held; same = refl; refused = λ _. refl }
 
 pub returns-in_err-judge : goal.returns-in_err-judge
 returns-in_err-judge c =
@@ -51,7 +38,7 @@ returns-in_err-judge c =
     let p = err_from_is_err_and c.from_residual-in_err-judge.result c.from_residual-in_err-judge.ensures.1 in
     let j = set_judged s.rules c.atom_count.result c.atom_count.ensures c.read_list.ensures.law.0 ws (λ i. (c.type_inv.words i).fits) (Judged P) (AnswerSet P) c.in_ok-plan.plan c.in_ok-plan.ensures.answer (Err f) c.in_err-judge.ensures.answer c.in_err-judge.ensures.law in
     let o = subst (Refusing s ws) (sym (p.1 ∙ ap Err p.2)) (record { judgement = j; stands = refl; held = refl }) in
-    record { answer = verdict_on P (list_of_words P.atoms ws) _ o.judgement.answer; law = plan_law P ws _ o.judgement.law; stands = o.stands; held = o.held; same = refl; refused = λ _. refl }
+    record { answer = o.judgement.answer; law = o.judgement.law; stands = o.stands; held = o.held; same = refl; refused = λ _. refl }
 
 pub invariant_of-self : goal.invariant_of-self
 invariant_of-self c = record { known = c.args.self.now.known; upheld = ∣ c.in_ok-judge.ensures.answer ∣₁ }
@@ -64,8 +51,8 @@ returns c =
     let list = c.in_ok-plan.ensures.answer in
     let o = set_judged s.rules c.atom_count.result c.atom_count.ensures c.read_list.ensures.law.0 ws (λ i. (c.type_inv.words i).fits) (Judged P) (AnswerSet P) c.in_ok-plan.plan list (Ok tt) c.in_ok-judge.ensures.answer c.in_ok-judge.ensures.law in
     record {
-      answer = verdict_on P (list_of_words P.atoms ws) _ o.answer;
-      law = plan_law P ws _ o.law;
+      answer = o.answer;
+      law = o.law;
       stands = set_stands s.rules c.atom_count.result c.atom_count.ensures c.read_list.ensures.law.0 ws (λ i. (c.type_inv.words i).fits) c.in_ok-plan.plan list;
       held = refl;
       same = refl;

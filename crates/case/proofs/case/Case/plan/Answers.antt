@@ -9,10 +9,10 @@ pub returns-in-Plan : goal.returns-in-Plan
 returns-in-Plan c =
     let t = c.args.self.now in
     let stands = subst (Upheld (program t.rules)) c.in-Plan.is (upheld_opened (program t.rules) t.standing t.upheld) in
-    record { answer = search rules; law = ∣ stands ∣₁; stands = stands }
+    record { answer = search rules; law = stands }
 
 pub returns-in-Hold : goal.returns-in-Hold
 returns-in-Hold c =
     let t = c.args.self.now in
     let stands = (subst (Upheld (program t.rules)) c.in-Hold.is (upheld_opened (program t.rules) t.standing t.upheld)).0 in
-    record { answer = search rules; law = ∣ stands ∣₁; stands = stands }
+    record { answer = search rules; law = stands }

@@ -1,6 +1,7 @@
 -- The assumable atoms outside the plan are written.
 use Rattle.std.proofs.Common.{◌≡◌, Some, Option, sym, ap, ◌∙◌, subst}
 use Rattle.std.specs.Option.{option_map}
+use Rattle.std.specs.Result.{result_ok}
 use Rattle.sets.specs.Sets.{Atoms, has}
 use Rattle.base.specs.Words.{word}
 use Rattle.base.specs.Buffers.{WroteInRoom}
@@ -18,12 +19,12 @@ pub returns : goal.returns
 returns c =
     let s = c.args.self.now in
     let P = program s.rules in
-    let plan = has c.in-Some.plan in
+    let plan = has c.in_ok-plan.plan in
     let list = has c.difference-list.result in
     let known = known_opened P s.settled s.assumable s.known in
     let n = atoms_fit P (program_within s.rules) c.atom_count.result c.atom_count.ensures in
     let old = c.args.out.now in
     let wrote = subst (λ k. WroteInRoom list_room (words_for list (word Member) k) old c.write_words.result c.write_words.new.out) n c.write_words.ensures in
-    let stands : Some plan ≡ plan_of s = sym (ap (option_map has) c.in-Some.is) ∙ c.plan.ensures.answer in
+    let stands : Some plan ≡ plan_of s = sym (ap (option_map has) (c.ok_or.ensures.ok_part ∙ ap result_ok c.in_ok-plan.was)) ∙ c.plan.ensures.answer in
     subst (λ (p : Option Atoms). Proposed P p old c.write_words.result c.write_words.new.out) stands
     (words_for list (word Member) P.atoms, proposal P (has s.assumable) plan list known.assumed c.difference-list.ensures (program_within s.rules), wrote)

@@ -1,30 +1,25 @@
-use Rattle.std.proofs.Common.{◌≡◌, ap, ◌∙◌, arith}
-use Rattle.std.proofs.lemmas.Bool.{not-true, not-false}
+use Rattle.std.proofs.Common.{Bool, ap, ◌∙◌, rules}
+use Rattle.std.proofs.lemmas.List.Folds.{length-prefix_len}
+use Rattle.std.proofs.lemmas.Iterator.Consumers.{count_from_yields_List}
+use Rattle.std.proofs.lemmas.Iterator.Search.{YieldsList-from_take_while}
+use Rattle.sets.specs.Sets.{has}
 use Rattle.rules.specs.Program.{body_size}
-use Rattle.rules.specs.Asked.{rule_at}
-use Rattle.reducts.specs.Reducts.{without_negative}
-use Rattle.reducts.specs.Selected.{selected}
-use Rattle.reducts.proofs.Bodies.{positive_rule, in_positive, past_positive}
+use Rattle.rules.specs.Asked.{rule_at, body}
+use Rattle.rules.specs.declared.literal.Literal.{Literal}
+use Rattle.reducts.specs.Reducts.{unblocked, only}
+use Rattle.reducts.proofs.Bodies.{gives_body, positive_size, reduct_rule}
 use Rattle.reducts.proofs.reduct.ReductRuleSource.body_len.Goals as goal
-
-pub returns-then-not-literal : goal.returns-then-not-literal
-returns-then-not-literal g c =
-    let P = selected g.S.RuleSource.meaning c.args.self.now.rules in
-    let r = rule_at P c.args.rule in
-    let l = c.literal-literal.result in
-    let past = past_positive r c.loop-k.k l c.literal-literal.ensures (omega arith) (not-true l.positive c.if-not-literal.true) in
-    let whole : c.loop-k.k ≡ body_size (without_negative r) = omega arith in
-    whole ∙ ap body_size (positive_rule P c.args.rule)
-
-pub loop-k-preserved : goal.loop-k-preserved
-loop-k-preserved g c =
-    let r = rule_at (selected g.S.RuleSource.meaning c.args.self.now.rules) c.args.rule in
-    let l = c.literal-literal.result in
-    omega (arith, in_positive r c.loop-k.k l c.literal-literal.ensures (omega arith) (not-false l.positive c.if-not-literal.false))
 
 pub returns : goal.returns
 returns g c =
-    let P = selected g.S.RuleSource.meaning c.args.self.now.rules in
-    let r = rule_at P c.args.rule in
-    let whole : c.body_len-all.result ≡ body_size (without_negative r) = omega (arith, c.body_len-all.ensures) in
-    whole ∙ ap body_size (positive_rule P c.args.rule)
+    let s = c.args.self.now in
+    let P = g.S.RuleSource.meaning s.rules.source in
+    let X = has s.rules.test.blocking in
+    let r = rule_at (only (unblocked X) P) c.args.rule in
+    let positive : Literal → Bool = λ l. l.positive in
+    let literals = gives_body (λ s. only (unblocked (has s.test.blocking)) (g.S.RuleSource.meaning s.source)) c.body.result c.take_while.result.iter r c.body.ensures c.take_while.ensures.source in
+    count_from_yields_List c.take_while.result c.count.result c.count.ensures.ran
+    (YieldsList-from_take_while _ positive literals c.take_while.ensures.closure c.take_while.ensures.done (λ l b q k. search rules))
+    ∙ length-prefix_len positive (body r)
+    ∙ positive_size r
+    ∙ ap body_size (reduct_rule P X c.args.rule)

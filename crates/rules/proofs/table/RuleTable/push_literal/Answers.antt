@@ -24,44 +24,23 @@ module _ (t : RuleTable) (l : Literal) (fits : literal_misfit (program t) l ≡ 
       let is = get_or_read es (len - 1) read inside r no_entry in
       ap₂ (λ (k : ℕ) (x : Entry). set es k x) (ap (λ k. k - 1) e) (n ∙ ap (λ (x : Entry). longer_entry x l.positive) (is ∙ ap (λ k. get_or es (k - 1) no_entry) e))
 
-pub overflow_sub-last : goal.overflow_sub-last
-overflow_sub-last c = omega (arith, some c.args.self.now c.args.literal c.requires)
-
-pub index-requires : goal.index-requires
-index-requires c = omega (arith, some c.args.self.now c.args.literal c.requires)
-
-pub longer-entry-requires : goal.longer-entry-requires
-longer-entry-requires c =
-    let t = c.args.self.now in
-    let es = vec_items t.entries in
-    let inside : c.len-last.result - 1 < length es = omega (arith, some t c.args.literal c.requires) in
-    let read = get_or_read es (c.len-last.result - 1) c.index.result.now inside c.index.ensures no_entry in
-    let o = t.ordered (c.len-last.result - 1) inside in
-    let split = ap (λ (e : Entry). e.split) read in
-    let end = ap (λ (e : Entry). e.end) read in
-    let light = (literal_fits (program t) c.args.literal c.requires).light in
-    (omega (arith, split, end, o.1), omega (arith, end, o.2, light, t.weighed))
-
-pub index_mut-requires : goal.index_mut-requires
-index_mut-requires c = omega (arith, some c.args.self.now c.args.literal c.requires)
-
-pub invariant_of-self : goal.invariant_of-self
-invariant_of-self c =
+pub invariant_of-self-2 : goal.invariant_of-self-2
+invariant_of-self-2 c =
     let t = c.args.self.now in
     let es = vec_items t.entries in
     let bs = vec_items t.body in
     let fits = literal_fits (program t) c.args.literal c.requires in
     let laid = literal_keeps bs c.args.literal.atom t.atoms es t.ordered t.last c.args.literal.positive fits t.weighed t.kept in
     let same = same_entries t c.args.literal c.requires c.len-last.result c.index.result.now c.longer-entry.result (c.len-last.ensures ∙ t.entries.ok.0) c.index.ensures c.longer-entry.ensures in
-    let l : Laid t.atoms (set es (c.len-last.result - 1) c.longer-entry.result) (vec_items c.push.new.self) = subst₂ (Laid t.atoms) (sym same) (sym c.in-Ok.ensures.items) laid in
+    let l : Laid t.atoms (set es (c.len-last.result - 1) c.longer-entry.result) (vec_items c.push.new.self) = subst₂ (Laid t.atoms) (sym same) (sym c.in_ok-push.ensures.items) laid in
     record { ordered = l.ordered; last = l.last; weighed = l.weighed; kept = l.kept }
 
-pub returns-in-Ok : goal.returns-in-Ok
-returns-in-Ok c =
+pub returns : goal.returns
+returns c =
     let t = c.args.self.now in
     let es = vec_items t.entries in
     let bs = vec_items t.body in
     let fits = literal_fits (program t) c.args.literal c.requires in
     let same = same_entries t c.args.literal c.requires c.len-last.result c.index.result.now c.longer-entry.result (c.len-last.ensures ∙ t.entries.ok.0) c.index.ensures c.longer-entry.ensures in
-    ap₂ (laid_program t.atoms) same c.in-Ok.ensures.items
+    ap₂ (laid_program t.atoms) same c.in_ok-push.ensures.items
     ∙ literal_laid bs c.args.literal.atom t.atoms es t.ordered t.last c.args.literal.positive fits

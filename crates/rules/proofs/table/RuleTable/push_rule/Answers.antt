@@ -1,9 +1,8 @@
-use Rattle.std.proofs.Common.{◌≡◌, [], ◌∷◌, ◌++◌, length, is_ok, vec_items, sym, ap, ◌∙◌, subst}
+use Rattle.std.proofs.Common.{◌≡◌, [], ◌∷◌, ◌++◌, length, is_ok, vec_items, sym, ◌∙◌, subst}
 use Rattle.std.proofs.lemmas.Bool.{cond_both}
-use Rattle.rules.specs.Laid.{laid_program}
 use Rattle.rules.specs.Tables.{program}
 use Rattle.rules.proofs.Fits.{rule_fits}
-use Rattle.rules.proofs.Laying.{Laid, rule_laid, rule_keeps}
+use Rattle.rules.proofs.Laying.{Laid, rule_keeps}
 use Rattle.rules.proofs.table.RuleTable.push_rule.Goals as goal
 
 pub invariant_of-self : goal.invariant_of-self
@@ -18,13 +17,3 @@ invariant_of-self c =
     let l : Laid t.atoms (vec_items c.push.new.self) bs =
     subst (λ xs. Laid t.atoms xs bs) (sym c.push.ensures.items) (cond_both (is_ok c.push.result) _ es (λ xs. Laid t.atoms xs bs) (λ _. grown) (λ _. laid)) in
     record { ordered = l.ordered; last = l.last; weighed = l.weighed; kept = l.kept }
-
-pub returns-in-Ok : goal.returns-in-Ok
-returns-in-Ok c =
-    let t = c.args.self.now in
-    let es = vec_items t.entries in
-    let bs = vec_items t.body in
-    let at : c.len-at.result ≡ length bs = c.len-at.ensures ∙ t.body.ok.0 in
-    ap (λ xs. laid_program t.atoms xs bs) c.in-Ok.ensures.items
-    ∙ ap (λ k. laid_program t.atoms (es ++ record { head = c.args.head; start = k; split = k; end = k } ∷ []) bs) at
-    ∙ rule_laid t.atoms es bs c.args.head

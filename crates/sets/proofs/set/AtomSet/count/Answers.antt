@@ -1,29 +1,17 @@
--- Each word adds its ones, and all sixteen have the marks up to 1,024.
-use Rattle.std.proofs.Common.{◌≡◌, ◌*◌, ◌/◌, ◌^◌, ◌<◌, length, get_or, sym, ap, ◌∙◌, arith, rules}
-use Rattle.std.proofs.lemmas.Nat.{ones-le}
-use Rattle.sets.specs.Limits.{max_atoms}
-use Rattle.sets.specs.Sets.{marked, rising}
-use Rattle.sets.proofs.Bitset.{count_more}
-use Rattle.sets.proofs.Rising.{length_rising_none}
-use Rattle.sets.proofs.Sets.{size_marked}
+-- Sixteen words have at most 64 ones each, and as many as the set has atoms.
+use Rattle.std.proofs.Common.{arith, rules, tests, ◌∙◌}
+use Rattle.std.proofs.lemmas.Iterator.{YieldsList-from_slice, YieldsList-from_map}
+use Rattle.std.proofs.lemmas.Iterator.Adapters.{fits_from_length, at_most_from_yields_List}
+use Rattle.std.proofs.lemmas.Iterator.Consumers.{sum_from_yields_List}
+use Rattle.sets.proofs.Bitset.{word_ones}
+use Rattle.sets.proofs.Sets.{size_words}
 use Rattle.sets.proofs.set.AtomSet.count.Goals as goal
 
-pub loop-word-init : goal.loop-word-init
-loop-word-init c = (search rules, sym (length_rising_none (marked c.args.self.now.words)))
-
-pub overflow_add-ones : goal.overflow_add-ones
-overflow_add-ones c =
-    let fit : get_or c.args.self.now.words c.loop-word.word-index 0 < 2 ^ 64 = search rules in
-    omega (arith, ones-le 64 (get_or c.args.self.now.words c.loop-word.word-index 0) fit)
-
-pub loop-word-preserved : goal.loop-word-preserved
-loop-word-preserved c =
-    let fit : get_or c.args.self.now.words c.loop-word.word-index 0 < 2 ^ 64 = search rules in (
-      omega (arith, ones-le 64 (get_or c.args.self.now.words c.loop-word.word-index 0) fit),
-      omega (arith, count_more c.args.self.now.words c.loop-word.word-index fit),
-    )
+pub sum-requires-clause-fits : goal.sum-requires-clause-fits
+sum-requires-clause-fits c =
+    fits_from_length _ _ 16 _ (at_most_from_yields_List (YieldsList-from_slice c.args.self.now.words cc) (omega arith)) c.map.ensures.closure (omega arith) (λ x r q k. search (rules, tests))
 
 pub returns : goal.returns
 returns c =
-    let all : c.loop-word.word-index ≡ max_atoms / 64 = omega arith in
-    c.loop-word.invariant.1 ∙ ap (λ i. length (rising (marked c.args.self.now.words) (64 * i))) all ∙ sym (size_marked c.args.self.now)
+    sum_from_yields_List _ _ c.sum.ensures.ran (YieldsList-from_map _ word_ones (YieldsList-from_slice c.args.self.now.words cc) c.map.ensures.closure (λ x r q k. search rules))
+    ∙ size_words c.args.self.now (omega arith)

@@ -1,27 +1,20 @@
--- The bit of a member is cleared.
-use Rattle.std.proofs.Common.{◌≡◌, true, sym, arith}
-use Rattle.sets.specs.Sets.{has}
-use Rattle.sets.proofs.Bitset.{marked_without}
-use Rattle.sets.proofs.Sets.{has_is_atom, has_low, has_high, has_less, size_less}
+-- The bit of an atom is cleared, and was there where the atom was a member.
+use Rattle.std.proofs.Common.{◌≡◌, ◌/◌, length, sym, rules}
+use Rattle.sets.specs.Limits.{max_atoms}
+use Rattle.sets.proofs.Sets.{has_not_atom, less_no_atom, has_test, has_less, size_less}
 use Rattle.sets.proofs.set.AtomSet.remove.Goals as goal
 
-pub overflow_sub-i : goal.overflow_sub-i
-overflow_sub-i c = has_low c.args.self.now c.args.atom (sym c.if-not-contains.ensures)
-
-pub bounds-self-i : goal.bounds-self-i
-bounds-self-i c = omega (arith, has_high c.args.self.now c.args.atom (sym c.if-not-contains.ensures))
-
-pub bounds-self-i-2 : goal.bounds-self-i-2
-bounds-self-i-2 c = omega (arith, has_high c.args.self.now c.args.atom (sym c.if-not-contains.ensures))
+pub returns-in_default : goal.returns-in_default
+returns-in_default c =
+    record { answer = sym (has_not_atom c.args.self.now c.args.atom c.in_default.ensures); after = less_no_atom c.args.self.now c.args.atom c.in_default.ensures; size = search rules }
 
 pub returns : goal.returns
 returns c =
-    let in_set : has c.args.self.now c.args.atom ≡ true = sym c.if-not-contains.ensures in
-    let atom = has_is_atom c.args.self.now c.args.atom in_set in
-    let high = has_high c.args.self.now c.args.atom in_set in
-    let write = marked_without c.args.self.now.words c.args.atom (has_low c.args.self.now c.args.atom in_set) (omega arith) in
+    let s = c.args.self.now in
+    let sixteen : length s.words ≡ max_atoms / 64 = search rules in
+    let test = has_test s c.args.atom (c.in-Some.word, c.in-Some.bit) c.in-Some.ensures sixteen in
     record {
-      answer = sym in_set;
-      after = has_less c.args.self.now _ c.args.atom atom write;
-      size = size_less c.args.self.now _ c.args.atom atom write in_set;
+      answer = test;
+      after = has_less s c.args.atom (c.in-Some.word, c.in-Some.bit) c.in-Some.ensures sixteen;
+      size = size_less s c.args.atom (c.in-Some.word, c.in-Some.bit) c.in-Some.ensures sixteen _ test;
     }

@@ -1,21 +1,9 @@
 use Rattle.std.proofs.Common.{◌≡◌, ◌+◌, ◌-◌, ltb, ◌∷◌, get_or, vec_items, sym, ap, ◌∙◌, arith}
 use Rattle.std.proofs.lemmas.List.{get_or_read}
 use Rattle.rules.specs.Program.{Rule}
-use Rattle.rules.specs.Asked.{plus, body, literal_at}
-use Rattle.rules.specs.Tables.{program}
-use Rattle.rules.proofs.Lookup.{cons_at, entry_literal, entry_past}
+use Rattle.rules.specs.Asked.{plus, body}
+use Rattle.rules.proofs.Lookup.{cons_at, entry_literal}
 use Rattle.rules.proofs.table.asking.RuleTableRuleSource.literal.Goals as goal
-use Rattle.rules.proofs.table.asking.RuleTableRuleSource.literal.Goals.{then-place-eq0-via-then-place-eq0, then-place-eq0-via-else-place-eq0+then-place-e}
-
-pub returns-then-place-eq0 : goal.returns-then-place-eq0
-returns-then-place-eq0 c =
-    let at = λ (r : Rule). get_or (plus 0 ∷ body r) c.args.place (plus 0) in
-    elim c.then-place-eq0.branch [
-      | then-place-eq0-via-then-place-eq0 w ↦ sym (ap (literal_at (program c.args.self.now) c.args.rule) w.if-place-eq0.true)
-      | then-place-eq0-via-else-place-eq0+then-place-e w ↦
-          entry_past (vec_items c.args.self.now.body) c.entry-e.result c.entry-e.ensures.ordered c.args.place w.if-place-e.true
-          ∙ ap at c.entry-e.ensures.lies
-    ]
 
 pub returns : goal.returns
 returns c =

@@ -1,0 +1,14 @@
+-- The chain over the pairs gives those that are allowed.
+use Rattle.std.proofs.Common.{◌∙◌, sym, rules, tests}
+use Rattle.std.proofs.lemmas.Iterator.Adapters.{option_map_id}
+use Rattle.std.proofs.lemmas.Iterator.Consumers.{nth_from_yields_List}
+use Rattle.sharing.specs.Sheets.{sheet_of, pair_count, allowed}
+use Rattle.sharing.proofs.Passing.{passing}
+use Rattle.sharing.proofs.sheet.SharingSheet.allowed_pair.Goals as goal
+
+pub returns : goal.returns
+returns c =
+    let S = sheet_of c.args.self.now in
+    sym (option_map_id c.nth.result)
+    ∙ nth_from_yields_List c.nth.result _ c.args.place c.nth.ensures.ran
+    (passing c.filter.result _ (allowed S) (pair_count S) (cc) c.filter.ensures.closure (λ x b q k. search (rules, tests)))
