@@ -41,7 +41,7 @@ pub enum Refusal {
 }
 
 impl Refusal {
-    // The number of the cause.
+    // The number of the cause; no `From`, as the value is lost.
     pub fn number(&self) -> u8
         ensures { result ≡ number_of self.now }
     {

@@ -1,4 +1,4 @@
-// The waiting list: a stack in a slice that is lent to it, as the calls that use it never allocate.
+// The waiting list: a stack over a lent slice, a form that the project asks for (docs/DECISIONS.md).
 mod calls;
 
 ghost use Rattle.std.specs.Prelude.{◌≤◌, length};

@@ -1,4 +1,5 @@
 // A case keeps a copy of its rules, so that what stands is true of rules that nothing else can change, and what these settle.
+// Its rules, plan and hold list are three functions in clauses, and no one model: each call says of each what becomes of it.
 ghost use Rattle.rules.specs.Tables.{program};
 ghost use Rattle.case.specs.Standings.{Known, Upheld};
 

@@ -58,7 +58,7 @@ fn pass(case: &mut Case, plan: &[u32], hold: &[u32]) -> Result<(), Refusal>
     case.hold(hold)
 }
 
-// The report on what stands.
+// The report on what stands. Each such call has its own promise for what is kept of the buffer, so there is no function for all.
 fn report(heap: Global, case: &Case) -> Result<Vec<u8>, LoadError>
     ensures { (M A : Atoms) → plan_of case.now ≡ Some M → hold_of case.now ≡ Some A → Tells vec_items (Reporting (rules_of case.now) M A) result }
 {

@@ -37,6 +37,7 @@ pub fn settle_file(heap: Global, kind: SourceKind, file: &[u8]) -> Result<String
     tell_settled(heap, &rules)
 }
 
+// Its buffer is kept as that of a report.
 fn tell_settled(heap: Global, rules: &RuleTable) -> Result<String, LoadError>
     ensures { Tells string_bytes (SettledLine (program rules.now)) result }
 {

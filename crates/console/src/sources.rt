@@ -38,7 +38,7 @@ impl FromStr for SourceKind {
     }
 }
 
-// The rules that the words of a file mean, or the first word at fault.
+// The rules that the words of a file mean, or the first word at fault. Kind and file stay two: a struct would only be opened here.
 pub(crate) fn load_rules(
     heap: Global,
     kind: SourceKind,

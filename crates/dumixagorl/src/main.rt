@@ -4,7 +4,7 @@
 mod files;
 mod replay;
 
-use anyhow::{anyhow, bail};
+use anyhow::bail;
 use base::LoadError;
 use console::{Command, HELP, SourceKind, UnknownCommand, judge_files, settle_file};
 use files::{read_file, read_named};

@@ -7,6 +7,7 @@ use std::alloc::AllocFailed;
 use std::error::Error;
 use std::fmt;
 
+// Of its own, as the errors of tables and of loading are: a `From` of any cause would overlap with that of want of memory.
 #[derive(Clone, Copy, PartialEq, Eq, Debug)]
 pub enum LineError {
     NotACall,

@@ -46,7 +46,7 @@ pub(crate) fn read_number(field: &[u8]) -> Option<u32>
     read_digits(digits, 10)
 }
 
-// The number that digits write, if it is below 2^32. The library's parse would take a plus sign too.
+// The number that digits write, if it is below 2^32. The library's parse takes text, and a plus sign too.
 fn read_digits(digits: &[u8], radix: u32) -> Option<u32>
     requires { (2 ≤ radix) × (radix ≤ 36) }
     ensures { SomeIff result (AllDigits radix digits.now × (digits_value radix digits.now < 2 ^ 32)) (digits_value radix digits.now) }

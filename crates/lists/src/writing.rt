@@ -28,12 +28,14 @@ pub trait AtomMarks {
 pub fn write_words<M: AtomMarks>(marks: &M, atoms: u32, out: &mut [u32]) -> Result<usize, Refusal>
     ensures { WroteInRoom list_room (words_for (M.AtomMarks.marked marks.now) (M.AtomMarks.word marks.now) (min atoms max_atoms)) out.old result out.new }
 {
+    // Tested here as in the other calls with a buffer: a function for it would take as many lines at each.
     if out.len() < LIST_ROOM {
         return Err(Refusal::BufferTooShort {
             needed: LIST_ROOM as u32,
         });
     }
     // Not a chain of `filter_map`: the checker's own part of the proof of a `for` over one fails in a generic function.
+    // `out` has the count beside it, as the caller lent it; half-open, since a loop over `..=` is left in two ways.
     let mut count = 0;
     for atom in 1..atoms.min(MAX_ATOMS) + 1 {
         let Some(word) = marks.word_for(atom) else {

@@ -18,7 +18,7 @@ use sets::{AtomSet, MAX_ATOMS};
 const WAITING_PLACES: usize = MAX_ATOMS as usize;
 
 // Only derived atoms are found, some of which wait to be followed; and there is room for all that are not found.
-// They wait on a lent slice, since deriving never allocates.
+// They wait on a stack over a lent slice, a form that the project asks for.
 #[derive(Drop)]
 struct Derivation<'a, S: RuleSource> {
     source: &'a S,

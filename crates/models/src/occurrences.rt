@@ -20,7 +20,8 @@ pub(crate) struct Position {
     next: u16,
 }
 
-// Positions count from 1, one for each body atom of the largest source, and 0 stands for none. Of an atom's chain `first` is the first.
+// Positions count from 1, one for each body atom of the largest source; 0 stands for none, so that they fit 16 bits.
+// Of an atom's chain `first` is the first.
 // Chains in fixed memory, and no list for each atom, since deriving never allocates.
 #[derive(Drop)]
 pub(crate) struct Occurrences {

@@ -1,5 +1,5 @@
 -- The numbers of the rules that pass a test: how they are found, and what stands at them. Assumes nothing.
-use Rattle.std.proofs.Common.{◌≡◌, ℕ, ◌+◌, ◌-◌, ◌≤◌, Bool, true, false, cond, List, [], ◌∷◌, ◌++◌, map, length, get_or, filter, refl, sym, ap, ◌∙◌, append-nil, ap₂, arith}
+use Rattle.std.proofs.Common.{◌≡◌, ℕ, ◌+◌, ◌-◌, ◌<◌, ◌≤◌, Bool, true, false, cond, List, [], ◌∷◌, ◌++◌, map, length, get_or, filter, refl, sym, ap, ◌∙◌, append-nil, subst, ap₂, arith}
 use Rattle.std.specs.List.{range_with_len}
 use Rattle.std.proofs.Math.ListN.{get_or-map}
 use Rattle.std.proofs.lemmas.List.{length-map, ext_get_or, map-id}
@@ -33,7 +33,7 @@ module _ (test : Rule → Bool) (P : Program) where
   passing_of n = filter (λ i. test (rule_at P i)) (range_with_len 1 n)
 
   module _ (i : ℕ) (numbers : List ℕ) (found : numbers ≡ passing_of i) where
-    pub few_found : length numbers ≤ i
+    few_found : length numbers ≤ i
     few_found =
         let q : ℕ → Bool = λ k. test (rule_at P k) in
         omega (arith, ap length found, length-filter q (range_with_len 1 i), count_by-le-length q (range_with_len 1 i), length-range_with_len 1 i)
@@ -46,11 +46,25 @@ module _ (test : Rule → Bool) (P : Program) where
         ∙ ap (λ ks. filter q ks ++ cond (q (i + 1)) ((i + 1) ∷ []) []) (map-id (range_with_len 1 i))
         ∙ ap₂ (λ ks c. ks ++ cond c ((i + 1) ∷ []) []) (sym found) (sym e)
 
-    pub found_in : true ≡ test (rule_at P (i + 1)) → numbers ++ (i + 1) ∷ [] ≡ passing_of (i + 1)
+    found_in : true ≡ test (rule_at P (i + 1)) → numbers ++ (i + 1) ∷ [] ≡ passing_of (i + 1)
     found_in e = sym (found_next true e)
 
-    pub found_out : false ≡ test (rule_at P (i + 1)) → numbers ≡ passing_of (i + 1)
+    found_out : false ≡ test (rule_at P (i + 1)) → numbers ≡ passing_of (i + 1)
     found_out e = sym (found_next false e ∙ append-nil numbers)
+
+  -- the same by the number of the rule that comes next
+  module _ (rule : ℕ) (above : 1 ≤ rule) (numbers : List ℕ) (found : numbers ≡ passing_of (rule - 1)) where
+    next : rule - 1 + 1 ≡ rule
+    next = omega arith
+
+    pub few_before : length numbers < rule
+    few_before = omega (arith, few_found (rule - 1) numbers found)
+
+    pub with_rule : true ≡ test (rule_at P rule) → numbers ++ rule ∷ [] ≡ passing_of rule
+    with_rule = subst (λ k. true ≡ test (rule_at P k) → numbers ++ k ∷ [] ≡ passing_of k) next (found_in (rule - 1) numbers found)
+
+    pub without_rule : false ≡ test (rule_at P rule) → numbers ≡ passing_of rule
+    without_rule = subst (λ k. false ≡ test (rule_at P k) → numbers ≡ passing_of k) next (found_out (rule - 1) numbers found)
 
   passing_rules : map (rule_at P) (passing test P) ≡ filter test P.rules
   passing_rules = map_filter test (rule_at P) (range_with_len 1 (length P.rules)) ∙ ap (filter test) (all_rules P)

@@ -32,6 +32,7 @@ impl<S: RuleSource> Reduct<S> {
     }
 }
 
+// Most questions go on to the selection: there is no shorter form for that.
 impl<S: RuleSource> RuleSource for Reduct<S> {
     ghost meaning = { λ s. reduct (S.RuleSource.meaning s.rules.source) (has s.rules.test.blocking) };
 

@@ -9,7 +9,7 @@ ghost use Rattle.reducts.specs.Within.{only_within};
 use arrayvec::ArrayVec;
 use rules::{Literal, MAX_RULES, RuleSource};
 
-// A test of rules; a trait, since no closure could be asked of any source.
+// A test of rules; a trait and no closure, since what a made source means, and its set, are read from the test.
 pub trait RuleTest {
     ghost passes: { Self → Rule → Bool };
 
@@ -32,8 +32,7 @@ impl<S: RuleSource, T: RuleTest> Selection<S, T> {
     {
         // A push cannot fail here, as a collect could.
         let mut numbers = ArrayVec::new();
-        for i in 0..source.rule_count() {
-            let rule = i + 1;
+        for rule in 1..=source.rule_count() {
             if test.keeps(&source, rule) {
                 numbers.push(rule as u16);
             }
@@ -45,7 +44,7 @@ impl<S: RuleSource, T: RuleTest> Selection<S, T> {
         }
     }
 
-    // The number of a rule in the source, or 0, by which a source is asked for no rule.
+    // The number of a rule in the source, or 0, by which the source is asked for no rule: an Option would be turned into that.
     #[tactic(auto, using(crate::proofs::Selecting::passing_rule))]
     fn number(&self, rule: usize) -> usize
         ensures { rule_at (S.RuleSource.meaning self.now.source) result ≡ rule_at (only (T.RuleTest.passes self.now.test) (S.RuleSource.meaning self.now.source)) rule }

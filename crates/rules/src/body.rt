@@ -6,7 +6,7 @@ ghost use Rattle.rules.specs.Iterating.{left_of};
 
 use crate::{Literal, RuleSource};
 
-// Those at the places behind `given` up to `size` are still to come.
+// Those at the places behind `given` up to `size` are still to come; a range would hold the same two numbers.
 #[derive(Drop)]
 pub struct Body<'a, S> {
     source: &'a S,

@@ -1,4 +1,4 @@
-// A reference to a rule source as a rule source.
+// A reference to a rule source as a rule source: each question goes on to it, and there is no shorter form for that.
 use crate::{Literal, RuleSource};
 
 impl<'a, S: RuleSource> RuleSource for &'a S {

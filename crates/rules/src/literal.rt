@@ -1,4 +1,4 @@
-// One atom of a rule's body, with its sign. No enum of two signs: what asks for the atom mostly asks whatever the sign.
+// One atom of a rule's body, with its sign. An enum of the signs would need a third case, for no literal.
 #[derive(Clone, Copy, PartialEq, Eq, Debug)]
 pub struct Literal {
     pub atom: u32,

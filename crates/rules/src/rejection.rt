@@ -8,6 +8,7 @@ use std::alloc::AllocError;
 use std::error::Error;
 use std::fmt;
 
+// Not one generic type with `LoadError`: its `From` of any cause would overlap with that of `AllocError`.
 #[derive(Clone, Copy, PartialEq, Eq, Debug)]
 pub enum Rejection {
     Unfit(Misfit),

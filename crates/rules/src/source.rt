@@ -1,4 +1,5 @@
-// What a rule source is asked. Rules and body atoms count from 1; what is answered outside their range is fixed for all sources.
+// What a rule source is asked. Rules and body atoms count from 1. Outside their range it answers 0 and no Option: these are public
+// promises, which may not change.
 ghost use Rattle.std.specs.Prelude.{◌≡◌, length};
 ghost use Rattle.rules.specs.Program.{Program, Within};
 ghost use Rattle.rules.specs.Asked.{head_at, size_at, literal_at, rule_at, body};

@@ -16,7 +16,7 @@ pub struct Entry {
     pub end: usize,
 }
 
-// Tried: each rule with a `Vec` of its own literals; in a checked build it loads up to 1.2 times and copies 1.4 times slower.
+// Tried: a `Vec` of literals for each rule. It copies 1.4 to 1.5 times slower; the bar is a tenth (docs/DESIGN-PASS.md).
 #[derive(Drop)]
 pub struct RuleTable {
     atoms: u32,

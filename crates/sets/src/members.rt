@@ -1,4 +1,4 @@
-// An iterator over the atoms of a set, rising.
+// An iterator over the atoms of a set, rising. It counts, as a set has no slice of its members.
 ghost use Rattle.std.specs.Prelude.{◌≡◌, length};
 ghost use Rattle.sets.specs.Sets as sets;
 ghost use Rattle.sets.specs.Iterating.{left_of, gives_first};

@@ -7,7 +7,7 @@ use std::alloc::{AllocError, Global};
 // Stands for the one to three bytes that may be left at the end: no list that comes in a file has a node word.
 const BROKEN_WORD: u32 = 0x8000_0000;
 
-// Four bytes to a word, the least significant first.
+// Four bytes to a word, the least significant first. The loop takes off what the definition does; `as_chunks` would need a law on that.
 pub fn words_of(heap: Global, bytes: &[u8]) -> Result<Vec<u32>, AllocError>
     ensures { IfOk result (λ words. words.items ≡ files.words_of bytes.now) }
 {

@@ -8,7 +8,8 @@ use base::Refusal;
 // The longest line has a number of three digits and a value of ten: 26 bytes.
 pub const REFUSAL_ROOM: usize = 32;
 
-// The number of a refusal, and the value that it returns. `refusal_line` makes a text of its own; this one never allocates.
+// The number of a refusal, and the value that it returns: a `Refusal` would ask more of callers.
+// `refusal_line` makes a text of its own; this one never allocates.
 pub fn write_refusal(out: &mut [u8], number: u8, value: u32) -> Result<usize, Refusal>
     ensures { WroteInRoom refusal_room (refusal_text number value) out.old result out.new }
 {

@@ -1,4 +1,4 @@
-// The forms of a line.
+// The forms of a line. They are read here and not by `lines`, so that each tries what the other stands on.
 use std::alloc::{AllocError, Global};
 
 #[derive(Drop)]

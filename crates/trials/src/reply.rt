@@ -1,4 +1,4 @@
-// What a line is answered where nothing is refused.
+// What a line is answered where nothing is refused; not that of `lines`, so that each tries what the other stands on.
 use std::fmt;
 
 #[derive(Drop)]

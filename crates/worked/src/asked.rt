@@ -1,5 +1,5 @@
 // What a book answers about its rules, and a table that is copied of it.
-use crate::fixtures::book_of;
+use crate::fixtures::{book_of, check_source};
 use rules::{RuleSource, RuleTable};
 use std::process::Abort;
 use std::test::Fail;
@@ -40,14 +40,7 @@ const LITERALS: [(usize, usize, u32, bool); 11] = [
 ];
 
 fn check_answers<S: RuleSource>(rt: &impl Abort, source: &S) {
-    assert_eq!(rt; (source.atom_count(), source.rule_count()), (3, 2));
-    for (rule, head, len) in RULES {
-        assert_eq!(rt; (source.head(rule), source.body_len(rule)), (head, len));
-    }
-    for (rule, place, atom, positive) in LITERALS {
-        let literal = source.literal(rule, place);
-        assert_eq!(rt; (literal.atom, literal.positive), (atom, positive));
-    }
+    check_source(rt, source, (3, 2), &RULES, &LITERALS);
 }
 
 #[test]

@@ -1,6 +1,5 @@
 // What is asked about one file of rules.
-use crate::fixtures::printed;
-use base::{LoadError, Refusal};
+use crate::fixtures::check_refused;
 use console::{Command, SourceKind, UnknownCommand, UnknownSource, replay_file, settle_file};
 use lines::answer_line;
 use runs::Call;
@@ -34,10 +33,7 @@ fn refuses(
     file: &[u8],
     text: &str,
 ) -> Result<(), Fail> {
-    let told = settle_file(heap, kind, file);
-    assert!(rt; told.is_err());
-    assert_eq!(rt; printed(heap, told)?.as_str(), text);
-    Ok(())
+    check_refused(rt, heap, settle_file(heap, kind, file), text)
 }
 
 #[test]
@@ -86,12 +82,10 @@ fn a_file_is_refused_as_its_kind(rt: HostRuntime) -> Result<(), Fail> {
 }
 
 #[test]
-fn a_refused_file_is_not_replayed(rt: HostRuntime) {
+fn a_refused_file_is_not_replayed(rt: HostRuntime) -> Result<(), Fail> {
     let calls = Vec::new(rt.alloc());
-    match replay_file(rt.alloc(), SourceKind::Sharing, &BOOK, &calls) {
-        Err(e) => assert_eq!(rt; e, LoadError::Refused(Refusal::PastLimit { place: 0 })),
-        Ok(_) => assert!(rt; false),
-    }
+    let told = replay_file(rt.alloc(), SourceKind::Sharing, &BOOK, &calls);
+    check_refused(&rt, rt.alloc(), told, "refused 4 at 0\n")
 }
 
 #[test]

@@ -1,11 +1,12 @@
 // Words, and what the tests share: the worked book and sheet, plans and cases.
-use base::LoadError;
+use base::{LoadError, Refusal};
 use books::Book;
 use case::Case;
-use rules::RuleSource;
+use rules::{Literal, RuleSource};
 use sets::AtomSet;
 use sharing::SharingSheet;
 use std::alloc::{AllocError, Global};
+use std::process::Abort;
 use std::test::Fail;
 use texts::refusal_line;
 
@@ -74,12 +75,62 @@ pub(crate) fn held(heap: Global) -> Result<Case, Fail> {
     Ok(case)
 }
 
-// What the program prints: a text, or the refusal that stands in its place.
-pub(crate) fn printed(heap: Global, told: Result<String, LoadError>) -> Result<String, LoadError> {
-    match told {
-        Err(LoadError::Refused(refusal)) => Ok(refusal_line(heap, &refusal)?),
-        told => told,
+// How many atoms and rules a source has, and what it answers about rules (their heads and lengths) and places in them.
+pub(crate) fn check_source<S: RuleSource>(
+    rt: &impl Abort,
+    source: &S,
+    counts: (u32, usize),
+    rules: &[(usize, u32, usize)],
+    literals: &[(usize, usize, u32, bool)],
+) {
+    assert_eq!(rt; (source.atom_count(), source.rule_count()), counts);
+    for (rule, head, len) in rules {
+        assert_eq!(rt; (source.head(*rule), source.body_len(*rule)), (*head, *len));
     }
+    for (rule, place, atom, positive) in literals {
+        let literal = Literal {
+            atom: *atom,
+            positive: *positive,
+        };
+        assert_eq!(rt; source.literal(*rule, *place), literal);
+    }
+}
+
+// What a call writes into a buffer of some length.
+pub(crate) fn written<T: Copy, F: FnOnce(&mut [T]) -> Result<usize, Refusal>>(
+    heap: Global,
+    filled: T,
+    room: usize,
+    call: F,
+) -> Result<Vec<T>, Fail>
+    requires { F.IsAlwaysCallable call }
+{
+    let mut buffer = vec![in heap; filled; room]?;
+    let count = call(&mut buffer)?;
+    buffer.truncate(count);
+    Ok(buffer)
+}
+
+// One atom and the rule that it holds, as the bytes of a book.
+pub(crate) const FACT: [u8; 8] = [1, 0, 0, 0xE0, 1, 0, 0, 0];
+
+// The bytes of the plan that has this atom.
+pub(crate) const MEMBER: [u8; 4] = [1, 0, 0, 0x60];
+
+// Whether a refusal with this line stands in place of what was asked for.
+pub(crate) fn check_refused<T: Drop>(
+    rt: &impl Abort,
+    heap: Global,
+    told: Result<T, LoadError>,
+    line: &str,
+) -> Result<(), Fail> {
+    match told {
+        Err(LoadError::Refused(refusal)) => {
+            assert_eq!(rt; refusal_line(heap, &refusal)?.as_str(), line);
+        }
+        _ => assert!(rt; false),
+    }
+    Ok(())
 }
 
 // The set of the atoms on a list.

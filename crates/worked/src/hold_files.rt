@@ -1,16 +1,9 @@
 // Books, plans and hold lists as the bytes of files.
-use base::LoadError;
+use crate::fixtures::{FACT, MEMBER, check_refused};
 use console::judge_files_and_hold;
 use std::alloc::Global;
 use std::process::Abort;
 use std::test::Fail;
-use texts::refusal_line;
-
-// One atom and the rule that it holds, as a book.
-const FACT: [u8; 8] = [1, 0, 0, 0xE0, 1, 0, 0, 0];
-
-// The plan that has this atom.
-const MEMBER: [u8; 4] = [1, 0, 0, 0x60];
 
 // 1 if not 2; 2 if not 1; 3 if 1; 4 if 5; 5 if 4.
 const WORKED: [u8; 44] = [
@@ -44,13 +37,8 @@ fn refuses(
     hold: &[u8],
     text: &str,
 ) -> Result<(), Fail> {
-    match judge_files_and_hold(heap, book, plan, hold) {
-        Err(LoadError::Refused(refusal)) => {
-            assert_eq!(rt; refusal_line(heap, &refusal)?.as_str(), text);
-        }
-        _ => assert!(rt; false),
-    }
-    Ok(())
+    let told = judge_files_and_hold(heap, book, plan, hold);
+    check_refused(rt, heap, told, text)
 }
 
 #[test]

@@ -2,7 +2,7 @@
 use crate::fixtures::{WORKED, book_of, member, negative, opening, positive};
 use base::{LoadError, Refusal};
 use books::Book;
-use rules::RuleSource;
+use rules::{Literal, RuleSource};
 use std::alloc::{AllocError, Global};
 use std::test::Fail;
 
@@ -117,9 +117,10 @@ fn a_refused_load_leaves_the_book(rt: HostRuntime) -> Result<(), Fail> {
     assert!(rt; book.load(rt.alloc(), &[opening(2), 1, 2, 3]).is_err());
     assert_eq!(rt; (book.atom_count(), book.rule_count()), (5, 5));
     assert_eq!(rt; (book.head(3), book.body_len(3)), (3, 1));
-    assert_eq!(rt;
-        (book.literal(3, 1).atom, book.literal(3, 1).positive),
-        (1, true)
-    );
+    let one = Literal {
+        atom: 1,
+        positive: true,
+    };
+    assert_eq!(rt; book.literal(3, 1), one);
     Ok(())
 }

@@ -1,10 +1,10 @@
 // Sources that are made of other sources, over the worked book and the worked sheet.
 use crate::encoding::encode;
-use crate::fixtures::{WORKED, WORKED_SHEET, book_of, member, set_of, sheet_of};
+use crate::fixtures::{WORKED, WORKED_SHEET, book_of, check_source, member, set_of, sheet_of};
 use base::Refusal;
 use case::Case;
 use reducts::{NegativeReduct, Reduct};
-use rules::{RuleSource, RuleTable};
+use rules::{Literal, RuleSource, RuleTable};
 use std::alloc::Global;
 use std::process::Abort;
 use std::test::Fail;
@@ -148,27 +148,20 @@ fn a_full_set_leaves_no_rule_with_what_it_tests(rt: HostRuntime) -> Result<(), F
 const RULES: [(usize, u32, usize); 5] = [(0, 0, 0), (1, 1, 0), (2, 3, 1), (4, 5, 1), (5, 0, 0)];
 
 // Rules and places with the atoms there; all are positive.
-const ATOMS: [(usize, usize, u32); 7] = [
-    (0, 1, 0),
-    (1, 1, 0),
-    (2, 0, 0),
-    (2, 1, 1),
-    (2, 2, 0),
-    (4, 1, 4),
-    (5, 1, 0),
+const LITERALS: [(usize, usize, u32, bool); 7] = [
+    (0, 1, 0, true),
+    (1, 1, 0, true),
+    (2, 0, 0, true),
+    (2, 1, 1, true),
+    (2, 2, 0, true),
+    (4, 1, 4, true),
+    (5, 1, 0, true),
 ];
 
 #[test]
 fn a_reduct_answers_in_and_out_of_range(rt: HostRuntime) -> Result<(), Fail> {
     let reduct = Reduct::new(book_of(rt.alloc(), &WORKED)?, set_of(&[1, 3]));
-    assert_eq!(rt; (reduct.atom_count(), reduct.rule_count()), (5, 4));
-    for (rule, head, len) in RULES {
-        assert_eq!(rt; (reduct.head(rule), reduct.body_len(rule)), (head, len));
-    }
-    for (rule, place, atom) in ATOMS {
-        let literal = reduct.literal(rule, place);
-        assert_eq!(rt; (literal.atom, literal.positive), (atom, true));
-    }
+    check_source(&rt, &reduct, (5, 4), &RULES, &LITERALS);
     Ok(())
 }
 
@@ -182,10 +175,11 @@ fn a_negative_reduct_answers_out_of_range_as_a_book(rt: HostRuntime) -> Result<(
             (0, 0)
         );
     }
-    assert_eq!(rt;
-        (rest.literal(1, 1).atom, rest.literal(1, 1).positive),
-        (2, false)
-    );
+    let not_2 = Literal {
+        atom: 2,
+        positive: false,
+    };
+    assert_eq!(rt; rest.literal(1, 1), not_2);
     Ok(())
 }
 

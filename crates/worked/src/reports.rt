@@ -1,5 +1,5 @@
 // Reports and refusal lines.
-use crate::fixtures::{case_of, held, member, negative, opening, planned};
+use crate::fixtures::{case_of, held, member, negative, opening, planned, written};
 use base::Refusal;
 use case::Case;
 use std::alloc::Global;
@@ -11,9 +11,7 @@ use texts::write_refusal;
 pub(crate) const WORKED_REPORT: &str = "plan 2 of 5 40%\n1 + h\n2 - a\n3 + h\n4 - w\n5 - w\n";
 
 pub(crate) fn reports(rt: &impl Abort, heap: Global, case: &Case, text: &str) -> Result<(), Fail> {
-    let mut out = vec![in heap; 0; 9239]?;
-    let count = case.report(out.as_mut_slice())?;
-    out.truncate(count);
+    let out = written(heap, 0, 9239, |out| case.report(out))?;
     assert_eq!(rt; out.as_slice(), text.as_bytes());
     Ok(())
 }
@@ -25,9 +23,7 @@ fn writes_line(
     value: u32,
     text: &str,
 ) -> Result<(), Fail> {
-    let mut out = vec![in heap; 0; 32]?;
-    let count = write_refusal(out.as_mut_slice(), number, value)?;
-    out.truncate(count);
+    let out = written(heap, 0, 32, |out| write_refusal(out, number, value))?;
     assert_eq!(rt; out.as_slice(), text.as_bytes());
     Ok(())
 }

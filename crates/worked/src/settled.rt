@@ -1,5 +1,5 @@
 // What rules settle without any plan.
-use crate::fixtures::{WORKED, book_of, case_of, member, negative, opening, positive};
+use crate::fixtures::{WORKED, book_of, case_of, member, negative, opening, positive, written};
 use base::Refusal;
 use models::derive;
 use sets::AtomSet;
@@ -18,9 +18,7 @@ fn settled_false(atom: u32) -> u32 {
 
 fn settles(rt: &impl Abort, heap: Global, book: &[u32], words: &[u32]) -> Result<(), Fail> {
     let case = case_of(heap, book)?;
-    let mut out = vec![in heap; 7; 1024]?;
-    let count = case.settled(out.as_mut_slice())?;
-    out.truncate(count);
+    let out = written(heap, 7, 1024, |out| case.settled(out))?;
     assert_eq!(rt; out.as_slice(), words);
     Ok(())
 }

@@ -1,5 +1,5 @@
 // Sharing sheets at and past each limit.
-use crate::fixtures::{WORKED_SHEET, member, sheet_of};
+use crate::fixtures::{WORKED_SHEET, check_source, member, sheet_of};
 use base::Refusal;
 use rules::RuleSource;
 use sharing::SharingSheet;
@@ -206,12 +206,7 @@ const GREATEST: [(usize, usize, u32, bool); 13] = [
 fn the_greatest_sheet_answers_in_and_out_of_range(rt: HostRuntime) -> Result<(), Fail> {
     let words = crowd(rt.alloc(), 24)?;
     let sheet = sheet_of(words.as_slice())?;
-    for (rule, place, atom, positive) in GREATEST {
-        let literal = sheet.literal(rule, place);
-        assert_eq!(rt; (literal.atom, literal.positive), (atom, positive));
-    }
-    for rule in [0, 217, usize::MAX] {
-        assert_eq!(rt; (sheet.head(rule), sheet.body_len(rule)), (0, 0));
-    }
+    let outside = [(0, 0, 0), (217, 0, 0), (usize::MAX, 0, 0)];
+    check_source(&rt, &sheet, (216, 216), &outside, &GREATEST);
     Ok(())
 }

@@ -1,5 +1,5 @@
 // The worked sharing sheet.
-use crate::fixtures::{WORKED_SHEET, passed_plans, sheet_of};
+use crate::fixtures::{WORKED_SHEET, check_source, passed_plans, sheet_of};
 use rules::{RuleSource, RuleTable};
 use sharing::SharingSheet;
 use std::process::Abort;
@@ -33,14 +33,7 @@ const LITERALS: [(usize, usize, u32, bool); 9] = [
 ];
 
 fn check_answers<S: RuleSource>(rt: &impl Abort, source: &S) {
-    assert_eq!(rt; (source.atom_count(), source.rule_count()), (4, 4));
-    for (rule, head, len) in RULES {
-        assert_eq!(rt; (source.head(rule), source.body_len(rule)), (head, len));
-    }
-    for (rule, place, atom, positive) in LITERALS {
-        let literal = source.literal(rule, place);
-        assert_eq!(rt; (literal.atom, literal.positive), (atom, positive));
-    }
+    check_source(rt, source, (4, 4), &RULES, &LITERALS);
 }
 
 #[test]

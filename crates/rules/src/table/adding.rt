@@ -114,7 +114,7 @@ impl RuleTable {
         self.entry(self.entries.len())
     }
 
-    // The last atom of the run that a literal goes into, or 0.
+    // The last atom of the run that a literal goes into, or 0, which every atom is above.
     fn last_before(&self, literal: Literal) -> u32
         ensures { result ≡ before (last_rule (program self.now)) literal }
     {

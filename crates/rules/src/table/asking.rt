@@ -8,7 +8,7 @@ use super::{Entry, RuleTable};
 use crate::{Literal, RuleSource};
 
 impl RuleTable {
-    // Where a rule lies; of a number that is no rule's, no head and an empty body.
+    // Where a rule lies; of a number that is no rule's, no head and an empty body: each question would turn an Option into that.
     pub(super) fn entry(&self, rule: usize) -> Entry
         ensures lies { entry_rule self.now.body.items result ≡ rule_at (program self.now) rule }
         ensures ordered { Ordered (length self.now.body.items) result }

@@ -31,14 +31,14 @@ impl SharingSheet {
         self.job_count() as u32 * self.heads
     }
 
-    // The pairs, rising; half-open, since the library has no law for chains over an inclusive range.
+    // The pairs, rising; half-open, since the library has no law for a `filter` over an inclusive range.
     pub(super) fn pairs(&self) -> Range<u32>
         ensures { result ≡ record { start = 1; end = pair_count (sheet_of self.now) + 1 } }
     {
         1..self.pair_count() + 1
     }
 
-    // A job, counted from 0; past the last there is none.
+    // A job, counted from 0; past the last, one that may go to no head, which no question tells from none.
     fn job(&self, place: usize) -> Job
         ensures { result ≡ job_at (sheet_of self.now) place }
     {
