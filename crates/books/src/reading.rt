@@ -57,9 +57,13 @@ fn add_word(table: &mut RuleTable, place: usize, word: u32) -> Result<(), Reject
     let Word { kind, payload } = Word::from(word);
     match kind {
         Kind::Head => table.add_rule(payload),
-        Kind::Positive | Kind::Negative => table.add_literal(Literal {
+        Kind::Positive => table.add_literal(Literal {
             atom: payload,
-            positive: kind == Kind::Positive,
+            positive: true,
+        }),
+        Kind::Negative => table.add_literal(Literal {
+            atom: payload,
+            positive: false,
         }),
         _ => Err(Rejection::from(Misfit::NoForm)),
     }

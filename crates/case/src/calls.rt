@@ -62,7 +62,10 @@ impl Case {
     pub fn status(&self, atom: u32) -> Result<bool, Refusal>
         ensures { result ≡ status_answer (rules_of self.now).atoms (plan_of self.now) atom }
     {
-        let plan = self.plan().ok_or(Refusal::NoPlan)?;
+        // No `ok_or` here: it would copy the plan once more, which takes as long as the rest.
+        let Some(plan) = self.plan() else {
+            return Err(Refusal::NoPlan);
+        };
         if atom == 0 || atom > self.rules.atom_count() {
             return Err(Refusal::NoSuchAtom { atom });
         }

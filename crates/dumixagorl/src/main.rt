@@ -6,11 +6,12 @@ mod replay;
 
 use anyhow::bail;
 use base::LoadError;
-use console::{Command, HELP, SourceKind, UnknownCommand, judge_files, settle_file};
+use console::{Command, HELP, Outcome, SourceKind, UnknownCommand, judge_files, settle_file};
 use files::{read_file, read_named};
 use replay::replay_lines;
 use std::env;
 use std::env::Args;
+use std::io::Write;
 use std::process::ExitCode;
 
 // A refusal ends with status 1 and no word on standard error, so no error is returned here.
@@ -18,7 +19,7 @@ fn main(rt: HostRuntime) -> ExitCode {
     match run(&rt) {
         Ok(status) => status,
         Err(e) => {
-            let _ = eprintln!(rt; "dumixagorl: {e:#}");
+            let _ = eprintln!(rt; "dumixagorl: {e}");
             ExitCode::FAILURE
         }
     }
@@ -42,7 +43,10 @@ fn run(rt: &HostRuntime) -> anyhow::Result<ExitCode> {
         }
         Ok(Command::Settled) => {
             let (kind, file) = source(rt, &mut args)?;
-            tell(rt, settle_file(rt.alloc(), kind, &file))
+            tell(
+                rt,
+                settle_file(rt.alloc(), kind, &file).map(String::into_bytes),
+            )
         }
         Err(UnknownCommand) => {
             no_more(&mut args)?;
@@ -54,28 +58,23 @@ fn run(rt: &HostRuntime) -> anyhow::Result<ExitCode> {
 fn judge(rt: &HostRuntime) -> anyhow::Result<ExitCode> {
     let book = read_file(rt, "book")?;
     let plan = read_file(rt, "plan")?;
-    tell(rt, judge_files(rt.alloc(), &book, &plan))
+    let outcome = Outcome::of(rt.alloc(), judge_files(rt.alloc(), &book, &plan))?;
+    rt.print(outcome.text.as_str())?;
+    Ok(status_of(outcome.passed))
 }
 
-// Prints a text, or the refusal that stands in its place.
-fn tell(rt: &HostRuntime, told: Result<String, LoadError>) -> anyhow::Result<ExitCode> {
-    match told {
-        Ok(text) => {
-            rt.print(text.as_str())?;
-            Ok(ExitCode::SUCCESS)
-        }
-        Err(e) => refuse(rt, e),
-    }
+// Prints in one write.
+pub(crate) fn tell(rt: &HostRuntime, told: Result<Vec<u8>, LoadError>) -> anyhow::Result<ExitCode> {
+    let outcome = Outcome::of(rt.alloc(), told)?;
+    rt.stdout().write_all(&outcome.text)?;
+    Ok(status_of(outcome.passed))
 }
 
-// Prints a refusal as the answer; want of memory is no answer.
-pub(crate) fn refuse(rt: &HostRuntime, error: LoadError) -> anyhow::Result<ExitCode> {
-    match error {
-        LoadError::Refused(refusal) => {
-            println!(rt; "{refusal}")?;
-            Ok(ExitCode::FAILURE)
-        }
-        LoadError::OutOfMemory => Err(error.into()),
+fn status_of(passed: bool) -> ExitCode {
+    if passed {
+        ExitCode::SUCCESS
+    } else {
+        ExitCode::FAILURE
     }
 }
 

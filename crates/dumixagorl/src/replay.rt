@@ -1,5 +1,5 @@
 // Calls from standard input, and their answers.
-use crate::refuse;
+use crate::tell;
 use console::{SourceKind, replay_file};
 use lines::{LineError, answer_line, read_line};
 use runs::{Answer, Call};
@@ -22,7 +22,7 @@ pub(crate) fn replay_lines(
     let script = read_script(rt)?;
     let answers = match replay_file(rt.alloc(), kind, file, &script.calls) {
         Ok(answers) => answers,
-        Err(e) => return refuse(rt, e),
+        Err(e) => return tell(rt, Err(e)),
     };
     print_answers(rt, &answers)?;
     if let Some(number) = script.stopped {

@@ -44,10 +44,10 @@ module _ (M : Atoms) (r : Rule) where
       (and_cases (firing M M r) (not (M r.head)) e)
 
 -- the first rule for which the question is answered with yes is the first that is not satisfied
-pub first_told : (P : Program) (M : Atoms) (low high : ℕ) (r : Option ℕ) → low ≡ 1 → high ≡ length P.rules → FirstOf (λ i. broken M (rule_at P i)) low high r → MatchOption r ((i : ℕ) → ¬ Unsatisfied P M i) (Least (Unsatisfied P M))
-first_told P M low high None one all h = λ i u. u.2 (whole_so M (rule_at P i) (h i (omega (arith, u.0)) (omega (arith, u.1))))
-first_told P M low high (Some i) one all h =
-    ((omega (arith, h.0), omega (arith, h.1), broken_so M (rule_at P i) h.2), λ j less u. u.2 (whole_so M (rule_at P j) (h.3 j (omega (arith, u.0)) less)))
+pub first_told : (P : Program) (M : Atoms) (high : ℕ) (r : Option ℕ) → high ≡ length P.rules → FirstOf (λ i. broken M (rule_at P i)) 1 high r → MatchOption r ((i : ℕ) → ¬ Unsatisfied P M i) (Least (Unsatisfied P M))
+first_told P M high None all h = λ i u. u.2 (whole_so M (rule_at P i) (h i u.0 (omega (arith, u.1, all))))
+first_told P M high (Some i) all h =
+    ((h.0, omega (arith, h.1, all), broken_so M (rule_at P i) h.2), λ j less u. u.2 (whole_so M (rule_at P j) (h.3 j u.0 less)))
 
 module _ (P : Program) (M : Atoms) where
   satisfied_in : ((i : ℕ) → ¬ Unsatisfied P M i) → (r : Rule) → r ∈ P.rules → Satisfied M r

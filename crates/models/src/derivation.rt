@@ -36,7 +36,8 @@ pub fn derive<S: RuleSource>(source: &S, blocked: &AtomSet) -> AtomSet
     ensures answer { Exactly (has result) (Derives (S.RuleSource.meaning source.now) (In (has blocked.now))) }
     ensures law { DerivesIsLeastClosedUnderTheReduct }
 {
-    let occurrences = Occurrences::of(source);
+    let mut occurrences = Occurrences::new();
+    occurrences.enter_all(source);
     let mut slots = [0; WAITING_PLACES];
     let mut derivation = Derivation::start(source, blocked, &mut slots);
     while let Some(atom) = derivation.waiting.pop() {

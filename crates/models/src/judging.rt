@@ -29,7 +29,7 @@ pub fn judge<S: RuleSource>(source: &S, plan: &AtomSet) -> Result<(), Refusal>
 fn first_unsatisfied<S: RuleSource>(source: &S, set: &AtomSet) -> Option<u32>
     ensures { MatchOption result ((i : ℕ) → ¬ Unsatisfied (S.RuleSource.meaning source.now) (has set.now) i) (Least (Unsatisfied (S.RuleSource.meaning source.now) (has set.now))) }
 {
-    (1..=source.rule_count() as u32).find(|&rule| {
+    (1..source.rule_count() as u32 + 1).find(|&rule| {
         let rule = rule as usize;
         fires(source, set, set, rule) && !set.contains(source.head(rule))
     })

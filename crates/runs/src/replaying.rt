@@ -22,7 +22,7 @@ pub fn replay<S: RuleSource>(
     ensures law { IfOk result (λ answers. LawOverRuns (S.RuleSource.meaning source.now) (trace calls.now answers.items)) }
 {
     let mut case = Case::new(heap, source)?;
-    let mut answers = Vec::new(heap);
+    let mut answers = Vec::with_capacity(heap, calls.len())?;
     for call in calls {
         answers.push(make(heap, &mut case, call)?)?;
     }

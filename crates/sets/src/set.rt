@@ -78,18 +78,18 @@ impl AtomSet {
         self.words.iter().map(|word| word.count_ones()).sum()
     }
 
-    // The smallest member from a number on.
+    // The smallest member from a number on. A range with its end would be asked more at each step, here and below.
     pub fn first_from(&self, low: u32) -> Option<u32>
         ensures { MatchOption result ((a : ℕ) → low ≤ a → has self.now a ≡ false) (Least (λ a. (low ≤ a) × (has self.now a ≡ true))) }
     {
-        (low..=MAX_ATOMS).find(|&atom| self.contains(atom))
+        (low..MAX_ATOMS + 1).find(|&atom| self.contains(atom))
     }
 
     // The smallest member that another set lacks.
     pub fn first_outside(&self, other: &AtomSet) -> Option<u32>
         ensures { MatchOption result ((a : ℕ) → has self.now a ≡ true → has other.now a ≡ true) (Least (λ a. (has self.now a ≡ true) × (has other.now a ≡ false))) }
     {
-        (1..=MAX_ATOMS).find(|&atom| self.contains(atom) && !other.contains(atom))
+        (1..MAX_ATOMS + 1).find(|&atom| self.contains(atom) && !other.contains(atom))
     }
 }
 

@@ -21,7 +21,7 @@ impl WellFounded {
     pub fn first_other_than(&self, set: &AtomSet) -> Option<u32>
         ensures { MatchOption result ((a : ℕ) → agrees self.now (has set.now) a ≡ true) (Least (λ a. agrees self.now (has set.now) a ≡ false)) }
     {
-        (1..=MAX_ATOMS).find(|&atom| !self.settles_as(set, atom))
+        (1..MAX_ATOMS + 1).find(|&atom| !self.settles_as(set, atom))
     }
 
     // Whether an atom is settled as a set has it.

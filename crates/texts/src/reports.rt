@@ -23,6 +23,7 @@ pub fn report_plan(heap: Global, atoms: u32, plan: &AtomSet) -> Result<String, A
 }
 
 // The number of a refusal and what it returns.
+#[tactic(auto, using(crate::proofs::Reporting::line_of_refusal))]
 pub fn refusal_line(heap: Global, refusal: &Refusal) -> Result<String, AllocError>
     ensures { IfOk result (λ text. string_bytes text ≡ texts.refusal_line refusal.now) }
 {

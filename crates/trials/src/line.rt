@@ -4,12 +4,7 @@ use std::alloc::{AllocError, Global};
 #[derive(Drop)]
 pub enum Line {
     Book(Vec<u32>),
-    Sharing(Vec<u32>),
     Plan(Vec<u32>),
-    Hold(Vec<u32>),
-    Propose { room: u32 },
-    Settled { room: u32 },
-    Report { room: u32 },
     Status { atom: u32 },
 }
 
@@ -18,35 +13,14 @@ pub(crate) fn is_passed_over(text: &str) -> bool {
     text.is_empty() || text.starts_with('#')
 }
 
-// A name with words or with a number, if it is one of these.
+// A name with words or with a number, if it is one of these; `trials_holds` has more names, which are none here.
 pub(crate) fn read_line(heap: Global, text: &str) -> Result<Option<Line>, AllocError> {
     let (name, rest) = text.split_once(' ').unwrap_or((text, ""));
     match name {
-        "book" | "sharing" | "plan" | "hold" => read_list(heap, name, rest),
-        _ => Ok(read_question(name, rest.trim())),
-    }
-}
-
-fn read_list(heap: Global, name: &str, rest: &str) -> Result<Option<Line>, AllocError> {
-    let Some(words) = read_words(heap, rest)? else {
-        return Ok(None);
-    };
-    Ok(Some(match name {
-        "book" => Line::Book(words),
-        "sharing" => Line::Sharing(words),
-        "plan" => Line::Plan(words),
-        _ => Line::Hold(words),
-    }))
-}
-
-fn read_question(name: &str, rest: &str) -> Option<Line> {
-    let number = read_number(rest)?;
-    match name {
-        "propose" => Some(Line::Propose { room: number }),
-        "settled" => Some(Line::Settled { room: number }),
-        "report" => Some(Line::Report { room: number }),
-        "status" => Some(Line::Status { atom: number }),
-        _ => None,
+        "book" => Ok(read_words(heap, rest)?.map(Line::Book)),
+        "plan" => Ok(read_words(heap, rest)?.map(Line::Plan)),
+        "status" => Ok(read_number(rest.trim()).map(|atom| Line::Status { atom })),
+        _ => Ok(None),
     }
 }
 

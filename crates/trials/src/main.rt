@@ -1,4 +1,4 @@
-// Reads rules, plans, hold lists and questions, one to a line, and prints an answer to each.
+// Reads books, plans and questions, one to a line, and prints an answer to each.
 #![tactic(auto)]
 
 mod line;
@@ -7,9 +7,11 @@ mod trial;
 
 use base::LoadError;
 use line::{is_passed_over, read_line};
+use std::alloc::AllocError;
+use std::io;
 use trial::Trial;
 
-fn main(rt: HostRuntime) -> anyhow::Result<()> {
+fn main(rt: HostRuntime) -> io::Result<()> {
     let heap = rt.alloc();
     let mut trial = Trial::new(heap)?;
     for text in rt.lines(heap) {
@@ -22,15 +24,13 @@ fn main(rt: HostRuntime) -> anyhow::Result<()> {
     Ok(())
 }
 
-fn answer(rt: &HostRuntime, trial: &mut Trial, text: &str) -> anyhow::Result<()> {
+fn answer(rt: &HostRuntime, trial: &mut Trial, text: &str) -> io::Result<()> {
     let Some(line) = read_line(rt.alloc(), text)? else {
-        rt.println("not a line")?;
-        return Ok(());
+        return rt.println("not a line");
     };
     match trial.answer(rt.alloc(), line) {
-        Ok(reply) => print!(rt; "{reply}")?,
-        Err(LoadError::Refused(refusal)) => println!(rt; "{refusal}")?,
-        Err(e) => return Err(e.into()),
+        Ok(reply) => println!(rt; "{reply}"),
+        Err(LoadError::Refused(refusal)) => println!(rt; "{refusal}"),
+        Err(LoadError::OutOfMemory) => Err(AllocError.into()),
     }
-    Ok(())
 }

@@ -1,5 +1,5 @@
 // What is asked about one file of rules.
-use crate::fixtures::check_refused;
+use crate::fixtures::check_printed;
 use console::{Command, SourceKind, UnknownCommand, UnknownSource, replay_file, settle_file};
 use lines::answer_line;
 use runs::Call;
@@ -22,8 +22,8 @@ fn settles(
     file: &[u8],
     text: &str,
 ) -> Result<(), Fail> {
-    assert_eq!(rt; settle_file(heap, kind, file)?.as_str(), text);
-    Ok(())
+    let told = settle_file(heap, kind, file).map(String::into_bytes);
+    check_printed(rt, heap, told, true, text)
 }
 
 fn refuses(
@@ -33,7 +33,8 @@ fn refuses(
     file: &[u8],
     text: &str,
 ) -> Result<(), Fail> {
-    check_refused(rt, heap, settle_file(heap, kind, file), text)
+    let told = settle_file(heap, kind, file).map(String::into_bytes);
+    check_printed(rt, heap, told, false, text)
 }
 
 #[test]
@@ -84,8 +85,11 @@ fn a_file_is_refused_as_its_kind(rt: HostRuntime) -> Result<(), Fail> {
 #[test]
 fn a_refused_file_is_not_replayed(rt: HostRuntime) -> Result<(), Fail> {
     let calls = Vec::new(rt.alloc());
-    let told = replay_file(rt.alloc(), SourceKind::Sharing, &BOOK, &calls);
-    check_refused(&rt, rt.alloc(), told, "refused 4 at 0\n")
+    match replay_file(rt.alloc(), SourceKind::Sharing, &BOOK, &calls) {
+        Ok(_) => assert!(rt; false),
+        Err(e) => check_printed(&rt, rt.alloc(), Err(e), false, "refused 4 at 0\n")?,
+    }
+    Ok(())
 }
 
 #[test]

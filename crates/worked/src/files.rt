@@ -1,12 +1,14 @@
 // Books and plans as the bytes of files.
-use crate::fixtures::{FACT, MEMBER, check_refused};
-use console::judge_files;
+use crate::fixtures::{FACT, MEMBER};
+use console::{Outcome, judge_files};
 use std::alloc::Global;
 use std::process::Abort;
 use std::test::Fail;
 
 fn passes(rt: &impl Abort, heap: Global, book: &[u8], plan: &[u8], text: &str) -> Result<(), Fail> {
-    assert_eq!(rt; judge_files(heap, book, plan)?.as_str(), text);
+    let outcome = Outcome::of(heap, judge_files(heap, book, plan))?;
+    assert!(rt; outcome.passed);
+    assert_eq!(rt; outcome.text.as_str(), text);
     Ok(())
 }
 
@@ -17,7 +19,10 @@ fn refuses(
     plan: &[u8],
     line: &str,
 ) -> Result<(), Fail> {
-    check_refused(rt, heap, judge_files(heap, book, plan), line)
+    let outcome = Outcome::of(heap, judge_files(heap, book, plan))?;
+    assert!(rt; !outcome.passed);
+    assert_eq!(rt; outcome.text.as_str(), line);
+    Ok(())
 }
 
 #[test]

@@ -2,13 +2,13 @@
 use base::{LoadError, Refusal};
 use books::Book;
 use case::Case;
+use console::Outcome;
 use rules::{Literal, RuleSource};
 use sets::AtomSet;
 use sharing::SharingSheet;
 use std::alloc::{AllocError, Global};
 use std::process::Abort;
 use std::test::Fail;
-use texts::refusal_line;
 
 pub(crate) fn opening(atoms: u32) -> u32 {
     0xE000_0000 | atoms
@@ -117,19 +117,17 @@ pub(crate) const FACT: [u8; 8] = [1, 0, 0, 0xE0, 1, 0, 0, 0];
 // The bytes of the plan that has this atom.
 pub(crate) const MEMBER: [u8; 4] = [1, 0, 0, 0x60];
 
-// Whether a refusal with this line stands in place of what was asked for.
-pub(crate) fn check_refused<T: Drop>(
+// Whether this is what the program prints of what it was told, and whether it passes.
+pub(crate) fn check_printed(
     rt: &impl Abort,
     heap: Global,
-    told: Result<T, LoadError>,
-    line: &str,
+    told: Result<Vec<u8>, LoadError>,
+    passed: bool,
+    text: &str,
 ) -> Result<(), Fail> {
-    match told {
-        Err(LoadError::Refused(refusal)) => {
-            assert_eq!(rt; refusal_line(heap, &refusal)?.as_str(), line);
-        }
-        _ => assert!(rt; false),
-    }
+    let outcome = Outcome::of(heap, told)?;
+    assert_eq!(rt; outcome.passed, passed);
+    assert_eq!(rt; outcome.text.as_slice(), text.as_bytes());
     Ok(())
 }
 

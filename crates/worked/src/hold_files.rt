@@ -1,5 +1,5 @@
 // Books, plans and hold lists as the bytes of files.
-use crate::fixtures::{FACT, MEMBER, check_refused};
+use crate::fixtures::{FACT, MEMBER, check_printed};
 use console::judge_files_and_hold;
 use std::alloc::Global;
 use std::process::Abort;
@@ -24,9 +24,8 @@ fn passes(
     hold: &[u8],
     text: &str,
 ) -> Result<(), Fail> {
-    let report = judge_files_and_hold(heap, book, plan, hold)?;
-    assert_eq!(rt; report.as_slice(), text.as_bytes());
-    Ok(())
+    let told = judge_files_and_hold(heap, book, plan, hold);
+    check_printed(rt, heap, told, true, text)
 }
 
 fn refuses(
@@ -38,7 +37,7 @@ fn refuses(
     text: &str,
 ) -> Result<(), Fail> {
     let told = judge_files_and_hold(heap, book, plan, hold);
-    check_refused(rt, heap, told, text)
+    check_printed(rt, heap, told, false, text)
 }
 
 #[test]

@@ -50,9 +50,12 @@ impl<'a, S: RuleSource> Derivation<'a, S> {
         ensures onward { Onward self.old self.new }
         ensures considered { Considered S.RuleSource.meaning self.old self.new rule }
     {
-        let head = self.source.head(rule);
-        if fires(self.source, self.blocked, &self.found, rule) && self.found.insert(head) {
-            let _ = self.waiting.push(head);
+        if fires(self.source, self.blocked, &self.found, rule) {
+            // Asked only now, as a source may work long for a head.
+            let head = self.source.head(rule);
+            if self.found.insert(head) {
+                let _ = self.waiting.push(head);
+            }
         }
     }
 }

@@ -1,5 +1,5 @@
 // The index of all rules of a source.
-ghost use Rattle.std.specs.Prelude.{◌≡◌, ℕ, ◌+◌, ◌-◌, ◌<◌, ◌≤◌, ◌∷◌, length, take, if◌then◌else◌, ◌==◌};
+ghost use Rattle.std.specs.Prelude.{◌≡◌, ℕ, ◌+◌, ◌-◌, ◌<◌, ◌≤◌, [], ◌∷◌, length, take, if◌then◌else◌, ◌==◌};
 ghost use Rattle.sets.specs.Limits.{max_atoms};
 ghost use Rattle.rules.specs.Limits.{max_size};
 ghost use Rattle.rules.specs.Program.{weight};
@@ -10,17 +10,24 @@ use arrayvec::ArrayVec;
 use rules::RuleSource;
 
 impl Occurrences {
-    pub(crate) fn of<S: RuleSource>(source: &S) -> Occurrences
-        ensures { Indexed (S.RuleSource.meaning source.now) (length (S.RuleSource.meaning source.now).rules) result }
+    // No rules yet.
+    pub(crate) fn new() -> Occurrences
+        ensures { result.positions.items ≡ [] }
     {
-        let mut index = Occurrences {
+        Occurrences {
             first: [0; ATOM_PLACES],
             positions: ArrayVec::new(),
-        };
-        for rule in 1..=source.rule_count() as u16 {
-            index.enter(source, rule);
         }
-        index
+    }
+
+    // Enters all rules of a source, where the index lies: to hand it on with its rules would copy all its places.
+    pub(crate) fn enter_all<S: RuleSource>(&mut self, source: &S)
+        requires { self.old.positions.items ≡ [] }
+        ensures { Indexed (S.RuleSource.meaning source.now) (length (S.RuleSource.meaning source.now).rules) self.new }
+    {
+        for rule in 1..=source.rule_count() as u16 {
+            self.enter(source, rule);
+        }
     }
 
     // Enters the positive atoms of the rule behind the ones that are entered; they stand before the negative ones.

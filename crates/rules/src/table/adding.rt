@@ -55,8 +55,9 @@ impl RuleTable {
         Ok(())
     }
 
-    // Adds a literal at the end of the last rule's body.
+    // Adds a literal at the end of the last rule's body. It and its parts are inlined: a reader of words knows the sign.
     #[tactic(auto, using(crate::proofs::Exactly::literal_exactly))]
+    #[inline]
     pub fn add_literal(&mut self, literal: Literal) -> Result<(), Rejection>
         ensures answer { Added (literal_misfit (program self.old) literal) (program self.old) (with_literal (program self.old) literal) result (program self.new) }
         ensures law { LiteralAddedExactlyIfWithin }
@@ -85,6 +86,7 @@ impl RuleTable {
         Ok(())
     }
 
+    #[inline]
     fn fits_literal(&self, literal: Literal) -> Result<(), Misfit>
         ensures { result_err result ≡ literal_misfit (program self.now) literal }
     {
@@ -107,6 +109,7 @@ impl RuleTable {
         Ok(())
     }
 
+    #[inline]
     fn last_entry(&self) -> Entry
         ensures lies { entry_rule self.now.body.items result ≡ last_rule (program self.now) }
         ensures ordered { Ordered (length self.now.body.items) result }
@@ -115,6 +118,7 @@ impl RuleTable {
     }
 
     // The last atom of the run that a literal goes into, or 0, which every atom is above.
+    #[inline]
     fn last_before(&self, literal: Literal) -> u32
         ensures { result ≡ before (last_rule (program self.now)) literal }
     {
@@ -141,6 +145,7 @@ impl RuleTable {
         Ok(())
     }
 
+    #[inline]
     pub(super) fn push_literal(&mut self, literal: Literal) -> Result<(), AllocError>
         requires { literal_misfit (program self.old) literal ≡ None }
         ensures { MatchResult result (λ _. program self.new ≡ with_literal (program self.old) literal) (λ _. program self.new ≡ program self.old) }

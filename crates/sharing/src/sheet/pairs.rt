@@ -8,19 +8,12 @@ use super::{Job, SharingSheet};
 use std::ops::Range;
 
 impl SharingSheet {
-    // The jobs of the sheet.
-    fn jobs(&self) -> &[Job]
-        ensures { result.now ≡ (sheet_of self.now).jobs }
-    {
-        &self.jobs[..self.count]
-    }
-
     // `few`, here and below, saves each caller to know the limits of a sheet.
     pub(super) fn job_count(&self) -> usize
         ensures value { result ≡ length (sheet_of self.now).jobs }
         ensures few { result ≤ max_jobs }
     {
-        self.jobs().len()
+        self.count
     }
 
     // The atoms from 1 to this number are pairs, job by job and head by head.
@@ -42,7 +35,10 @@ impl SharingSheet {
     fn job(&self, place: usize) -> Job
         ensures { result ≡ job_at (sheet_of self.now) place }
     {
-        self.jobs().get(place).copied().unwrap_or_default()
+        if place >= self.count {
+            return Job::default();
+        }
+        self.jobs[place]
     }
 
     // The job of a pair.
@@ -72,15 +68,13 @@ impl SharingSheet {
     pub(super) fn excludes(&self, pair: u32, other: u32) -> bool
         ensures { result ≡ excludes (sheet_of self.now) pair other }
     {
-        if !self.allows(other) {
-            return false;
-        }
         let job = self.job_of(pair);
         let other_job = self.job_of(other);
+        // Most pairs are told apart before a job is looked up.
         if self.head_of(pair) != self.head_of(other) {
-            return job == other_job;
+            return job == other_job && self.allows(other);
         }
-        self.job(job).ink != self.job(other_job).ink
+        self.job(job).ink != self.job(other_job).ink && self.allows(other)
     }
 
     // Whether a pair is an allowed one of a job.
@@ -88,7 +82,7 @@ impl SharingSheet {
     pub(super) fn serves(&self, job: usize, pair: u32) -> bool
         ensures { result ≡ serves (sheet_of self.now) job pair }
     {
-        self.allows(pair) && self.job_of(pair) == job
+        self.job_of(pair) == job && self.allows(pair)
     }
 
     // The allowed pair at a place, counted from 0.

@@ -41,7 +41,7 @@ follow-requires g c j low high =
     let atom = c.in-Some.atom in
     let same = c.loop-atom.invariant.0 in
     taken_off (has s.blocked.now) (has s.found) (items s.waiting) (items c.pop.new.self) atom j (rule_at (meaning s.source.now) j) _ c.in-Some.ensures.items
-    (λ m. subst (λ rules. j ∈ rules) (sym c.rules_of.ensures) (c.of-occurrences.ensures j (subst (λ x. j ≤ length (meaning x).rules) same high) atom (subst (λ x. atom ∈ (rule_at (meaning x) j).pos) same m)))
+    (λ m. subst (λ rules. j ∈ rules) (sym c.rules_of.ensures) (c.enter_all.ensures j (subst (λ x. j ≤ length (meaning x).rules) same high) atom (subst (λ x. atom ∈ (rule_at (meaning x) j).pos) same m)))
     (c.loop-atom.invariant.2 j low high)
 
 pub loop-atom-smaller : goal.loop-atom-smaller
