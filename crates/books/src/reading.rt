@@ -55,6 +55,7 @@ fn add_word(table: &mut RuleTable, place: usize, word: u32) -> Result<(), Reject
         return Err(Rejection::from(Misfit::PastLimit));
     }
     let Word { kind, payload } = Word::from(word);
+    // Each sign has its arm, as a test of it for each literal takes as long as the literal.
     match kind {
         Kind::Head => table.add_rule(payload),
         Kind::Positive => table.add_literal(Literal {

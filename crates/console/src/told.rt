@@ -7,7 +7,7 @@ use base::{LoadError, Refusal};
 use std::alloc::{AllocError, Global};
 use texts::{REFUSAL_ROOM, write_refusal};
 
-// What the program tells something by: text, or bytes that a call wrote.
+// What is told where nothing is refused: a text, or the bytes that a call wrote.
 pub trait Telling: Sized {
     ghost bytes: { Self → List ℕ };
 

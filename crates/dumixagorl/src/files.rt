@@ -23,7 +23,7 @@ fn naming(path: &str, read: io::Result<Vec<u8>>) -> anyhow::Result<Vec<u8>> {
     read.map_err(|e| anyhow!("{path}: {e}"))
 }
 
-// Parts of one size, until there are enough bytes: `take` would stop within a part, and leave the rest of it in a pipe.
+// Parts of one size, until there are enough bytes. Where the file is the standard input, what `take` left of a part would be read as lines.
 fn open_and_read(rt: &HostRuntime, path: &str) -> io::Result<Vec<u8>> {
     let most = file_bytes();
     let mut file = File::open(rt, path)?;

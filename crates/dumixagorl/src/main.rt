@@ -63,7 +63,7 @@ fn judge(rt: &HostRuntime) -> anyhow::Result<ExitCode> {
     Ok(status_of(outcome.passed))
 }
 
-// Prints in one write.
+// Prints what was told, in one write, and answers with what status to end.
 pub(crate) fn tell(rt: &HostRuntime, told: Result<Vec<u8>, LoadError>) -> anyhow::Result<ExitCode> {
     let outcome = Outcome::of(rt.alloc(), told)?;
     rt.stdout().write_all(&outcome.text)?;

@@ -1,6 +1,7 @@
 // Sharing sheets: rule sources that compute their rules from heads, jobs and inks.
 #![tactic(auto)]
 
+mod counting;
 mod limits;
 mod reading;
 mod sheet;

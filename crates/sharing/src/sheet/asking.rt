@@ -4,6 +4,7 @@ ghost use Rattle.sharing.specs.Bounds.{sheet_within};
 
 use super::SharingSheet;
 use super::subject::Subject;
+use crate::counting::count_passing;
 use rules::{Literal, RuleSource};
 
 impl RuleSource for SharingSheet {
@@ -29,10 +30,7 @@ impl RuleSource for SharingSheet {
     }
 
     fn body_len(&self, rule: usize) -> usize {
-        let subject = self.subject(rule);
-        self.pairs()
-            .filter(|pair| self.blocks(subject, *pair))
-            .count()
+        count_passing(&self.body_of(rule), self.pair_count())
     }
 
     fn literal(&self, rule: usize, place: usize) -> Literal {

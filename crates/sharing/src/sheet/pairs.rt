@@ -1,11 +1,20 @@
 // The pairs of a job and a head: which are allowed, and which exclude each other.
-ghost use Rattle.std.specs.Prelude.{◌≡◌, ◌+◌, ◌*◌, ◌≤◌, length, slice_get};
+ghost use Rattle.std.specs.Prelude.{◌≡◌, ◌*◌, ◌≤◌, length, slice_get};
 ghost use Rattle.sets.specs.Sets.{rising};
 ghost use Rattle.sharing.specs.Limits.{max_heads, max_jobs};
 ghost use Rattle.sharing.specs.Sheets.{sheet_of, job_at, pair_count, job_of, head_of, allowed, excludes, serves};
 
 use super::{Job, SharingSheet};
-use std::ops::Range;
+use crate::counting::{PairTest, count_passing, nth_passing};
+
+// The allowed pairs.
+impl PairTest for SharingSheet {
+    ghost passes = { λ s. allowed (sheet_of s) };
+
+    fn holds(&self, pair: u32) -> bool {
+        self.allows(pair)
+    }
+}
 
 impl SharingSheet {
     // `few`, here and below, saves each caller to know the limits of a sheet.
@@ -22,13 +31,6 @@ impl SharingSheet {
         ensures few { result ≤ max_jobs * max_heads }
     {
         self.job_count() as u32 * self.heads
-    }
-
-    // The pairs, rising; half-open, since the library has no law for a `filter` over an inclusive range.
-    pub(super) fn pairs(&self) -> Range<u32>
-        ensures { result ≡ record { start = 1; end = pair_count (sheet_of self.now) + 1 } }
-    {
-        1..self.pair_count() + 1
     }
 
     // A job, counted from 0; past the last, one that may go to no head, which no question tells from none.
@@ -89,13 +91,13 @@ impl SharingSheet {
     pub(super) fn allowed_pair(&self, place: usize) -> Option<u32>
         ensures { result ≡ slice_get (rising (allowed (sheet_of self.now)) (pair_count (sheet_of self.now))) place }
     {
-        self.pairs().filter(|pair| self.allows(*pair)).nth(place)
+        nth_passing(self, self.pair_count(), place)
     }
 
     // How many pairs are allowed.
     pub(super) fn allowed_count(&self) -> usize
         ensures { result ≡ length (rising (allowed (sheet_of self.now)) (pair_count (sheet_of self.now))) }
     {
-        self.pairs().filter(|pair| self.allows(*pair)).count()
+        count_passing(self, self.pair_count())
     }
 }

@@ -5,6 +5,7 @@ ghost use Rattle.sharing.specs.Sheets.{sheet_of, sheet_program};
 ghost use Rattle.sharing.specs.Asked.{rule_for, blocks};
 
 use super::SharingSheet;
+use crate::counting::{PairTest, nth_passing};
 
 // What a rule of a sheet is for. `Nothing` is asked as the others are; an Option would be opened at each question.
 #[derive(Clone, Copy, PartialEq, Eq, Debug)]
@@ -12,6 +13,13 @@ pub(super) enum Subject {
     Pair(u32),
     WaitingJob(usize),
     Nothing,
+}
+
+// The pairs that stand in the negative body of a rule.
+#[derive(Clone, Copy)]
+pub(super) struct Body<'a> {
+    sheet: &'a SharingSheet,
+    subject: Subject,
 }
 
 impl SharingSheet {
@@ -37,19 +45,28 @@ impl SharingSheet {
     pub(super) fn blocker(&self, rule: usize, place: usize) -> Option<u32>
         ensures { option_map minus result ≡ slice_get (body (rule_at (sheet_program (sheet_of self.now)) rule)) place }
     {
-        let subject = self.subject(rule);
-        self.pairs()
-            .filter(|pair| self.blocks(subject, *pair))
-            .nth(place)
+        nth_passing(&self.body_of(rule), self.pair_count(), place)
     }
 
-    // Whether a pair stands in the negative body of a rule.
-    pub(super) fn blocks(&self, subject: Subject, pair: u32) -> bool
-        ensures { result ≡ blocks (sheet_of self.now) subject pair }
+    // The negative body of a rule.
+    pub(super) fn body_of(&self, rule: usize) -> Body<'_>
+        ensures sheet { result.sheet.now ≡ self.now }
+        ensures subject { rule_for (sheet_of self.now) result.subject ≡ rule_at (sheet_program (sheet_of self.now)) rule }
     {
-        match subject {
-            Subject::Pair(allowed) => self.excludes(allowed, pair),
-            Subject::WaitingJob(job) => self.serves(job, pair),
+        Body {
+            sheet: self,
+            subject: self.subject(rule),
+        }
+    }
+}
+
+impl<'a> PairTest for Body<'a> {
+    ghost passes = { λ b. blocks (sheet_of b.sheet.now) b.subject };
+
+    fn holds(&self, pair: u32) -> bool {
+        match self.subject {
+            Subject::Pair(allowed) => self.sheet.excludes(allowed, pair),
+            Subject::WaitingJob(job) => self.sheet.serves(job, pair),
             Subject::Nothing => false,
         }
     }
